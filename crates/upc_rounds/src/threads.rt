@@ -178,7 +178,7 @@ fn together<R: Threads + Wait + Sync, G: Gate>(
         move || -> Result<Vec<Place>, OutOfMemory>
             requires { (0 < length places.items) × IsStaffed cell.now code.now boxes.now owners.items (length places.items)
                 × ((f : Outcomes) × IsTeam (id_of cell.now) (started cell.now).0 code.now f places.items) }
-            ensures { IfOk result (λ ms. HasRun cell.entry.now code.entry.now places.entry.items ms.items) }
+            ensures { IfOk result (λ ms. HasRun cell.entry.now code.entry.now places.items ms.items) }
         { conduct(rt, alloc, places, boxes, owners, code, cell, gate) },
         ||
             requires { AreFor cell.now code.now boxes.now × (length doers.now ≡ length boxes.now) × AreFree boxes.now doers.now }
@@ -229,8 +229,8 @@ pub fn run<R: Threads + Wait + Sync, G: Gate>(
     let places = make_all(alloc, code, limits, seats)?;
     let looks = looks_for(rt, limits.threads);
     let posts = make_posts(alloc, &cell, code, limits.threads - 1, looks)?;
-    let places = together(rt, alloc, places, posts, code, &cell, gate)?;
-    let (world, strands) = close_all(cell, places, seats_room, strands_room);
+    let after = together(rt, alloc, places, posts, code, &cell, gate)?;
+    let (world, strands) = close_all(cell, after, seats_room, strands_room);
     let history = world.take_history();
     Ok(Journal {
         threads: limits.threads,

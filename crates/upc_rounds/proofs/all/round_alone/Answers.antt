@@ -1,4 +1,4 @@
-use Rattle.std.proofs.Common.{rules, ◌≡◌, ◌<◌, ℕ, length, length-set, get_or, sym, subst, ap, ◌∙◌, arith}
+use Rattle.std.proofs.Common.{◌≡◌, ◌<◌, length, length-set, get_or, sym, subst, ◌∙◌, arith}
 use Rattle.std.proofs.lemmas.List.{get_or_default}
 use Rattle.turn_cell.specs.layer.Seats.{id_of, started}
 use Rattle.upc_rounds_teams.specs.declared.place.Place.{Place}
@@ -7,8 +7,8 @@ use Rattle.upc_rounds.specs.code.Posts.{MayPlay}
 use Rattle.upc_rounds_teams.proofs.Meetings.{set-at}
 use Rattle.upc_rounds.proofs.all.round_alone.Goals as goal
 
-pub play-requires : goal.play-requires
-play-requires g c κs within =
+pub play-requires-clause-kept : goal.play-requires-clause-kept
+play-requires-clause-kept g c κs within =
     let inv = c.loop-at.invariant in let t = c.loop-at.at in let ls = c.loop-at.places in let ks = c.args.places.now in
     let lt : t < length ls = (let a = c.loop-at-test.true in let b = c.loop-at.auto.at-end in let m = inv.many in omega arith) in
     let lt0 : t < length ks = subst (λ m. t < m) inv.many lt in
@@ -24,6 +24,6 @@ loop-at-preserved g c =
     record {
       many = length-set ls t n ∙ inv.many;
       did = λ i d l. set-at (λ j m. D (get_or ks j d) m) ls t i n d lt (λ ne. inv.did i d (omega (arith, l, ne)))
-          (λ q. subst (λ k. D k n) (get_or_default ls t c.index-places-at.result d lt ∙ inv.rest t d (omega arith) lt0) c.play.ensures);
+          (λ q. subst (λ k. D k n) (get_or_default ls t c.index-places-at.result d lt ∙ inv.rest t d (omega arith) lt0) c.play.ensures.did);
       rest = λ i d low l. set-at (λ j m. m ≡ get_or ks j d) ls t i n d lt (λ ne. inv.rest i d (omega arith) l) (λ q. absurd (omega (arith, low, q)));
     }

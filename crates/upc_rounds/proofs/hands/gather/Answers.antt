@@ -1,4 +1,4 @@
-use Rattle.std.proofs.Common.{rules, ◌≡◌, ◌<◌, ℕ, suc, ◌++◌, ◌∷◌, [], length, length-set, length-append, get_or, sym, subst, ap, ◌∙◌, arith}
+use Rattle.std.proofs.Common.{rules, ◌≡◌, ◌<◌, suc, ◌++◌, ◌∷◌, [], length, length-set, length-append, get_or, sym, subst, ap, ◌∙◌, arith}
 use Rattle.std.proofs.Math.ListN.{get_or-append}
 use Rattle.std.proofs.lemmas.List.{get_or_default}
 use Rattle.turn_cell.specs.layer.Seats.{id_of, started}
@@ -8,22 +8,21 @@ use Rattle.upc_rounds_teams.specs.declared.place.Place.{Place}
 use Rattle.upc_rounds_teams.specs.layer.Places.{Did}
 use Rattle.upc_rounds.specs.code.Posts.{TaskBox, IsFor}
 use Rattle.upc_rounds_teams.proofs.Crews.{some-place}
-use Rattle.upc_rounds.proofs.Posts.{snoc-at}
+use Rattle.upc_rounds.proofs.Handing.{snoc-at}
 use Rattle.upc_rounds.proofs.hands.gather.Goals as goal
 
 pub take_back-place-requires-clause-work : goal.take_back-place-requires-clause-work
-take_back-place-requires-clause-work g c =
+take_back-place-requires-clause-work g c κs within =
     let t = c.loop-at.at in let bs = c.args.boxes.now in let lt : t < length bs = search rules in
     subst (IsFor c.args.cell.now c.args.code.now) (sym c.index-boxes-at.is) (c.requires.work t c.index-boxes-at.result lt)
 
 pub take_back-place-requires-clause-out : goal.take_back-place-requires-clause-out
-take_back-place-requires-clause-out g c =
+take_back-place-requires-clause-out g c κs within =
     let inv = c.loop-at.invariant in let t = c.loop-at.at in let bs = c.args.boxes.now in let os = c.loop-at.owners in let lt : t < length bs = search rules in
     let e = some-place c.args.places.now.items 0 (let one = c.requires.one in omega arith) in let x = get_or c.args.was.value.items (suc t) e in
-    let b = c.index-boxes-at in let o = c.index-owners-at in
-    (
+    let b = c.index-boxes-at in let o = c.index-owners-at in (
       x,
-      subst (λ y. WaitsFor y o.result x) (sym b.is) (subst (λ y. WaitsFor (get_or bs t b.result) y x) (sym o.is) (inv.out t b.result o.result e (omega arith) lt)),
+      subst (λ y. WaitsFor y (get_or os t o.result) x) (sym b.is) (inv.out t b.result o.result e (omega arith) lt),
       c.requires.kept t e lt,
     )
 
@@ -35,8 +34,8 @@ loop-at-preserved g c =
     let b = c.index-boxes-at in let o = c.index-owners-at in let e = c.take_back-place.ensures in
     let D : Place → Place → Type 0 = Did (id_of c.args.cell.now) (started c.args.cell.now).0 c.args.code.now in
     let is : c.push_reserved.new.self.items ≡ ps ++ place ∷ [] = search rules in
-    let waits : (d : Place) → WaitsFor b.result o.result (get_or was (suc t) d) = λ d.
-    subst (λ y. WaitsFor y o.result (get_or was (suc t) d)) (sym b.is) (subst (λ y. WaitsFor (get_or bs t b.result) y (get_or was (suc t) d)) (sym o.is) (inv.out t b.result o.result d (omega arith) lt)) in
+    let waits : (d : Place) → WaitsFor b.result (get_or os t o.result) (get_or was (suc t) d) = λ d.
+    subst (λ y. WaitsFor y (get_or os t o.result) (get_or was (suc t) d)) (sym b.is) (inv.out t b.result o.result d (omega arith) lt) in
     record {
       many = ap length is ∙ omega (arith, length-append ps (place ∷ []), inv.many);
       owned = length-set os t n ∙ inv.owned;

@@ -15,9 +15,9 @@ use Rattle.upc_rounds.proofs.threads.rounds.Goals as goal
 some-of : (n m a b : ℕ) → 0 < n → a ≡ n → b ≡ m → b ≡ a → 0 < m
 some-of n m a b some x y e = subst (λ k. 0 < k) (sym x ∙ sym e ∙ y) some
 
-stopped-in : {r : Option ℕ} (ks xs : List Place) → MatchOption r (NoneStops (workers_of xs)) (StopsAt (workers_of xs)) → xs ≡ ks
+stopped-in : (r : Option ℕ) (ks xs : List Place) → MatchOption r (NoneStops (workers_of xs)) (StopsAt (workers_of xs)) → xs ≡ ks
     → MatchOption r (NoneStops (workers_of ks)) (StopsAt (workers_of ks))
-stopped-in {r} ks xs h is = subst (λ l. MatchOption r (NoneStops (workers_of l)) (StopsAt (workers_of l))) is h
+stopped-in r ks xs h is = subst (λ l. MatchOption r (NoneStops (workers_of l)) (StopsAt (workers_of l))) is h
 
 ended-in : (ks xs : List Place) → Numbered (λ _ k. is_some k.«end» ≡ true) (workers_of xs) → xs ≡ ks → Numbered (λ _ k. is_some k.«end» ≡ true) (workers_of ks)
 ended-in ks xs h is = subst (λ l. Numbered (λ _ k. is_some k.«end» ≡ true) (workers_of l)) is h
@@ -26,7 +26,7 @@ pub loop-init : goal.loop-init
 loop-init g c = let h = c.requires.staff in record { many = h.many; owned = h.owned; idle = h.idle; some = c.requires.some; team = λ f t. t; same = same-refl (workers_of c.args.places.now.items) }
 
 pub go-requires-clause-staff : goal.go-requires-clause-staff
-go-requires-clause-staff g c = let h = c.loop.invariant in record { many = h.many; owned = h.owned; work = c.requires.staff.work; idle = h.idle }
+go-requires-clause-staff g c κs within = let h = c.loop.invariant in record { many = h.many; owned = h.owned; work = c.requires.staff.work; idle = h.idle }
 
 pub go-requires-clause-team : goal.go-requires-clause-team
 go-requires-clause-team g c κs within = let t = c.requires.team in (t.0, c.loop.invariant.team t.0 t.1)
@@ -48,7 +48,7 @@ loop-preserved g c =
     let ks = c.go.new.places.items in
     let ms = c.none_goes.new.places.items in let e = c.in_ok-none.ensures in
     let no : is_some c.stopped.result ≡ false = search rules in
-    let quiet : NoneStops (workers_of ks) = match-none c.stopped.result (NoneStops (workers_of ks)) (StopsAt (workers_of ks)) no (stopped-in ks _ c.stopped.ensures (search rules)) in
+    let quiet : NoneStops (workers_of ks) = match-none c.stopped.result (NoneStops (workers_of ks)) (StopsAt (workers_of ks)) no (stopped-in c.stopped.result ks _ c.stopped.ensures (search rules)) in
     let off : c.in_ok-none.none ≡ false = search rules in
     record {
       many = sym (many-workers ms) ∙ ap length e.workers ∙ c.in_ok-go.ensures.same.many ∙ many-workers c.loop.places.items ∙ h.many;
@@ -78,7 +78,7 @@ returns-then-is_some-clause-over g c = λ f t.
     let z = id_of c.args.cell.now in let o = (started c.args.cell.now).0 in let code = c.args.code.now in let h = c.loop.invariant in
     let ks = c.go.new.places.items in
     let yes : is_some c.stopped.result ≡ true = search rules in
-    let u = match-some c.stopped.result (NoneStops (workers_of ks)) (StopsAt (workers_of ks)) yes (stopped-in ks _ c.stopped.ensures (search rules)) in
+    let u = match-some c.stopped.result (NoneStops (workers_of ks)) (StopsAt (workers_of ks)) yes (stopped-in c.stopped.result ks _ c.stopped.ensures (search rules)) in
     let gone = c.in_ok-go.ensures.gone f (h.team f t) in
     let some = some-of (length c.loop.places.items) (length ks) (length (workers_of c.loop.places.items)) (length (workers_of ks)) h.some (many-workers c.loop.places.items) (many-workers ks) c.in_ok-go.ensures.same.many in
     done-halted z o code f ks c.halt_all.new.places.items some c.halt_all.ensures.seats gone.crew u.0 c.in_ok-go.ensures.rested u.1 c.halt_all.ensures.workers
@@ -124,7 +124,7 @@ returns-then-none-clause-over g c = λ f t.
     let ks = c.go.new.places.items in
     let ms = c.none_goes.new.places.items in let e = c.in_ok-none.ensures in
     let no : is_some c.stopped.result ≡ false = search rules in
-    let quiet : NoneStops (workers_of ks) = match-none c.stopped.result (NoneStops (workers_of ks)) (StopsAt (workers_of ks)) no (stopped-in ks _ c.stopped.ensures (search rules)) in
+    let quiet : NoneStops (workers_of ks) = match-none c.stopped.result (NoneStops (workers_of ks)) (StopsAt (workers_of ks)) no (stopped-in c.stopped.result ks _ c.stopped.ensures (search rules)) in
     let crew = e.crew code f (c.in_ok-go.ensures.gone f (h.team f t)).crew in
     let some = some-of (length c.loop.places.items) (length ms) (length (workers_of c.loop.places.items)) (length (workers_of ms)) h.some (many-workers c.loop.places.items) (many-workers ms)
     (ap length e.workers ∙ c.in_ok-go.ensures.same.many) in

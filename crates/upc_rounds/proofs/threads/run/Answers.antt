@@ -1,30 +1,26 @@
-use Rattle.std.proofs.Common.{rules, ℕ, ◌≡◌, ◌<◌, ◌≤◌, ◌++◌, List, [], map, length, take, drop, refl, sym, subst, ap, ◌∙◌, arith}
+use Rattle.std.proofs.Common.{◌≡◌, ◌<◌, map, sym, subst, ap, ◌∙◌}
 use Rattle.turn_cell.specs.layer.Seats.{AreNew, id_of, started}
 use Rattle.upc_values.specs.declared.journal.Journal.{Journal}
-use Rattle.upc_values.specs.Lists.{Numbered}
 use Rattle.upc_values.specs.Openings.{Opening, IsOpening}
 use Rattle.upc_values.specs.History.{IsLegal, EachBelow}
 use Rattle.upc_values.specs.Formed.{AreWellFormed}
 use Rattle.upc_values.specs.Waits.{WaitsFollow}
 use Rattle.upc_task.specs.layer.Sources.{Outcomes, HasOutcomes}
-use Rattle.upc_task.specs.layer.Kept.{IsKept, strand_of}
-use Rattle.upc_rounds_teams.specs.declared.place.Place.{Place}
+use Rattle.upc_task.specs.layer.Kept.{strand_of}
 use Rattle.upc_rounds.specs.layer.Openings.{opening_of}
 use Rattle.upc_rounds_teams.specs.layer.Runs.{AreSame}
-use Rattle.upc_rounds_teams.specs.layer.Teams.{IsSeated, IsTeam, IsDone, HasEnded, workers_of, seen_at, seen_among}
+use Rattle.upc_rounds_teams.specs.layer.Teams.{IsTeam, IsDone, HasEnded, workers_of, seen_among}
 use Rattle.upc_rounds_base.proofs.Openings.{kept_opening}
 use Rattle.upc_rounds_base.proofs.Outcomes.{has_outcomes, there}
 use Rattle.upc_rounds.proofs.Spending.{sound-spent}
-use Rattle.upc_rounds_teams.proofs.Crews.{many-workers}
-use Rattle.upc_rounds.proofs.Beginnings.{given-back}
 use Rattle.upc_rounds.proofs.Whole.{begun-team, done-kept, done-is-ended, done-sound, done-in-time}
 use Rattle.upc_rounds.proofs.threads.run.Goals as goal
 
 pub make_all-requires-clause-code : goal.make_all-requires-clause-code
 make_all-requires-clause-code g c = c.requires.fits.threads ∙ c.requires.same
 
-pub together-places-requires-clause-team : goal.together-places-requires-clause-team
-together-places-requires-clause-team g c κs within =
+pub together-requires-clause-team : goal.together-requires-clause-team
+together-requires-clause-team g c κs within =
     let o : Opening = opening_of c.args.program.now in let l = c.args.limits in let code = c.args.code.now in
     let cell = c.in_ok-cell.cell in let z = id_of cell in let s = c.in_ok-cell.ensures in let ks = c.in_ok-places.places.items in
     let opens : IsOpening o = kept_opening o c.args.program.now.opening in
@@ -43,7 +39,7 @@ close_all-world-requires-clause-seated g c =
     let opens : IsOpening o = kept_opening o c.args.program.now.opening in
     let from : (started cell).0 ≡ o = ap (λ v. v.0) s.cell.0 ∙ c.in_ok-world.ensures.1 in
     let new : AreNew z o 0 c.in_ok-cell.seats.items = subst (λ y. AreNew z y 0 c.in_ok-cell.seats.items) c.in_ok-world.ensures.1 s.seats.1 in
-    let ms = c.in_ok-places-2.places.items in let e = c.in_ok-places-2.ensures in
+    let ms = c.in_ok-after.after.items in let e = c.in_ok-after.ensures in
     let same : AreSame (workers_of ks) (workers_of ms) = e.same in
     let begun : (f : Outcomes) → HasOutcomes o code l f → IsTeam z (started cell).0 code f ks = λ f has.
     subst (λ y. IsTeam z y code f ks) (sym from)
@@ -59,7 +55,7 @@ close_all-world-requires-clause-ended g c =
     let opens : IsOpening o = kept_opening o c.args.program.now.opening in
     let from : (started cell).0 ≡ o = ap (λ v. v.0) s.cell.0 ∙ c.in_ok-world.ensures.1 in
     let new : AreNew z o 0 c.in_ok-cell.seats.items = subst (λ y. AreNew z y 0 c.in_ok-cell.seats.items) c.in_ok-world.ensures.1 s.seats.1 in
-    let ms = c.in_ok-places-2.places.items in let e = c.in_ok-places-2.ensures in
+    let ms = c.in_ok-after.after.items in let e = c.in_ok-after.ensures in
     let same : AreSame (workers_of ks) (workers_of ms) = e.same in
     let begun : (f : Outcomes) → HasOutcomes o code l f → IsTeam z (started cell).0 code f ks = λ f has.
     subst (λ y. IsTeam z y code f ks) (sym from)
@@ -75,7 +71,7 @@ returns-clause-sound g c = λ f h.
     let opens : IsOpening o = kept_opening o c.args.program.now.opening in
     let from : (started cell).0 ≡ o = ap (λ v. v.0) s.cell.0 ∙ c.in_ok-world.ensures.1 in
     let new : AreNew z o 0 c.in_ok-cell.seats.items = subst (λ y. AreNew z y 0 c.in_ok-cell.seats.items) c.in_ok-world.ensures.1 s.seats.1 in
-    let ms = c.in_ok-places-2.places.items in let e = c.in_ok-places-2.ensures in
+    let ms = c.in_ok-after.after.items in let e = c.in_ok-after.ensures in
     let same : AreSame (workers_of ks) (workers_of ms) = e.same in
     let begun : (f : Outcomes) → HasOutcomes o code l f → IsTeam z (started cell).0 code f ks = λ f has.
     subst (λ y. IsTeam z y code f ks) (sym from)
@@ -123,7 +119,7 @@ returns-clause-rounds g c = λ f h.
     let opens : IsOpening o = kept_opening o c.args.program.now.opening in
     let from : (started cell).0 ≡ o = ap (λ v. v.0) s.cell.0 ∙ c.in_ok-world.ensures.1 in
     let new : AreNew z o 0 c.in_ok-cell.seats.items = subst (λ y. AreNew z y 0 c.in_ok-cell.seats.items) c.in_ok-world.ensures.1 s.seats.1 in
-    let ms = c.in_ok-places-2.places.items in let e = c.in_ok-places-2.ensures in
+    let ms = c.in_ok-after.after.items in let e = c.in_ok-after.ensures in
     let same : AreSame (workers_of ks) (workers_of ms) = e.same in
     let begun : (f : Outcomes) → HasOutcomes o code l f → IsTeam z (started cell).0 code f ks = λ f has.
     subst (λ y. IsTeam z y code f ks) (sym from)

@@ -1,5 +1,5 @@
 -- The boxes of a run: what may be posted, and what comes back.
-use Rattle.std.proofs.Common.{◌≡◌, ℕ, zero, suc, ◌<◌, List, [], ◌∷◌, ◌++◌, length, take, get_or, refl, sym, subst, arith}
+use Rattle.std.proofs.Common.{◌≡◌, ℕ, zero, suc, ◌<◌, List, [], ◌∷◌, ◌++◌, length, take, get_or, refl, sym, subst, ap, ◌∙◌, arith}
 use Rattle.stack_code.specs.layer.Codes.{Codes}
 use Rattle.turn_cell.specs.layer.Seats.{id_of, started}
 use Rattle.post_box.specs.layer.Boxes.{work_of}
@@ -56,3 +56,7 @@ each-of D ks ms n e one more (suc i) d lt = more i d (omega (arith, e, lt))
 pub one-left : (ks : List Place) (n : ℕ) (d : Place) → length ks ≡ suc n → take 1 ks ≡ get_or ks 0 d ∷ []
 one-left [] n d e = absurd (omega (arith, e))
 one-left (k ∷ ks) n d e = refl
+
+-- What is read of the first place alone
+pub first-of : (ks items : List Place) (n : ℕ) (x : Place) → length ks ≡ suc n → items ≡ take 1 ks → x ≡ get_or items 0 x → x ≡ get_or ks 0 x
+first-of ks items n x e left is = is ∙ ap (λ l. get_or l 0 x) (left ∙ one-left ks n x e)
