@@ -1,4 +1,4 @@
-//! Tests of turns at a cell, of write buffers, of the shared heap, of histories and runs by hand, and of the text of a
+//! Tests of turns at a cell, of posts, of write buffers, of the shared heap, of histories and runs by hand, and of the text of a
 //! run.
 #![tactic(auto)]
 
@@ -10,6 +10,8 @@ mod by_hand;
 mod heaps;
 #[cfg(test)]
 mod histories;
+#[cfg(test)]
+mod posts;
 #[cfg(test)]
 mod records;
 #[cfg(test)]

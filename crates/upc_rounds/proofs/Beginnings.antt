@@ -44,18 +44,19 @@ pub seen-none : (z : TableId) (o : Opening) (c : Codes) (f : Outcomes) (ks : Lis
 seen-none z o c f [] h = refl
 seen-none z o c f (k ∷ ks) h = (h 0 k (omega arith)).seen_is
 
-drop-all : (ys xs : List Place) → length ys ≡ length xs → drop (length ys) xs ≡ []
-drop-all [] [] h = refl
-drop-all [] (x ∷ xs) h = absurd (omega arith)
-drop-all (y ∷ ys) [] h = absurd (omega arith)
-drop-all (y ∷ ys) (x ∷ xs) h = drop-all ys xs (omega arith)
+module _ {A : Type 0} where
+  drop-all : (ys xs : List A) → length ys ≡ length xs → drop (length ys) xs ≡ []
+  drop-all [] [] h = refl
+  drop-all [] (x ∷ xs) h = absurd (omega arith)
+  drop-all (y ∷ ys) [] h = absurd (omega arith)
+  drop-all (y ∷ ys) (x ∷ xs) h = drop-all ys xs (omega arith)
 
-take-all : (n : ℕ) (ys : List Place) → n ≡ length ys → take n ys ≡ ys
-take-all zero [] h = refl
-take-all (suc n) [] h = absurd (omega arith)
-take-all zero (y ∷ ys) h = absurd (omega arith)
-take-all (suc n) (y ∷ ys) h = ap (λ l. y ∷ l) (take-all n ys (omega arith))
+  take-all : (n : ℕ) (ys : List A) → n ≡ length ys → take n ys ≡ ys
+  take-all zero [] h = refl
+  take-all (suc n) [] h = absurd (omega arith)
+  take-all zero (y ∷ ys) h = absurd (omega arith)
+  take-all (suc n) (y ∷ ys) h = ap (λ l. y ∷ l) (take-all n ys (omega arith))
 
--- A slice of all of a vector that is given back with as many members
-pub given-back : (n : ℕ) (xs ys : List Place) → length ys ≡ length xs → n ≡ length xs → take n (ys ++ drop (length ys) xs) ≡ ys
-given-back n xs ys h e = ap (λ l. take n (ys ++ l)) (drop-all ys xs h) ∙ ap (take n) (append-nil ys) ∙ take-all n ys (e ∙ sym h)
+  -- A slice of all of a vector that is given back with as many members
+  pub given-back : (n : ℕ) (xs ys : List A) → length ys ≡ length xs → n ≡ length xs → take n (ys ++ drop (length ys) xs) ≡ ys
+  given-back n xs ys h e = ap (λ l. take n (ys ++ l)) (drop-all ys xs h) ∙ ap (take n) (append-nil ys) ∙ take-all n ys (e ∙ sym h)

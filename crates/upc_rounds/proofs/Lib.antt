@@ -11,3 +11,4 @@ pub mod Ending
 pub mod Whole
 pub mod Cuts
 mod RoundRows
+pub mod Handing

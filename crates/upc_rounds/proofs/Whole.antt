@@ -1,5 +1,5 @@
 -- A whole run, from its beginning to its journal.
-use Rattle.std.proofs.Common.{◌≡◌, ℕ, ◌<◌, ◌≤◌, true, List, [], map, length, None, is_some, refl, sym, ap, subst, ◌∙◌, get_or}
+use Rattle.std.proofs.Common.{◌≡◌, ℕ, ◌<◌, true, List, [], map, length, None, is_some, refl, sym, ap, subst, ◌∙◌, get_or}
 use Rattle.turn_cell.specs.layer.Seats.{TableId}
 use Rattle.upc_values.specs.declared.journal.Entry.{Entry}
 use Rattle.upc_values.specs.declared.journal.Journal.{Journal}

@@ -4,7 +4,10 @@
 mod all;
 pub mod begin;
 pub mod closing;
+mod hands;
 mod part;
+mod places;
+mod posts;
 mod threads;
 
 pub use part::round;

@@ -1,6 +1,9 @@
 //! Runs by rounds, each thread on a thread of its own.
 
-ghost use Rattle.std.specs.Prelude.{ℕ, ◌≡◌, ◌<◌, ◌≤◌, ◌*◌, IfOk, length};
+ghost use Rattle.std.specs.Prelude.{ℕ, ◌≡◌, ◌<◌, ◌≤◌, ◌*◌, suc, IfOk, length, slice_index_or};
+ghost use Rattle.post_box.specs.layer.Boxes.{IsFree};
+ghost use Rattle.post_box.specs.layer.Rows.{AreIdle, AreFree};
+ghost use Rattle.upc_rounds.specs.code.Posts.{TaskBox, IsFor, AreFor, IsStaffed, HasRun};
 ghost use Rattle.upc_values.specs.Sound.{IsSound};
 ghost use Rattle.upc_values.specs.Ends.{AreSpent};
 ghost use Rattle.upc_values.specs.Waits.{WaitsFollow};
@@ -16,47 +19,56 @@ ghost use Rattle.upc_rounds_teams.specs.layer.Teams.{IsTeam, IsDone, HasEnded, w
 use crate::all::go;
 use crate::begin::{begin, make_all};
 use crate::closing::close_all;
+use crate::hands::attend;
+use crate::places::{halt_all, lock_all, none_goes};
+use crate::posts::{Part, make_posts};
 use memory_history::World;
+use post_box::{Doer, Owner, PostBox, Row, dismiss_all};
 use stack_code::Code;
 use std::alloc::{AllocError as OutOfMemory, Global};
 use std::sync::Wait;
+use std::thread;
 use std::thread::Threads;
 use turn_cell::TurnCell;
 use typed_tree::Program;
-use upc_rounds_teams::ends::{all_ended, halt_all, lock_all, none_goes, stopped};
+use upc_rounds_teams::ends::{all_ended, stopped};
 use upc_rounds_teams::place::Place;
 use upc_task::Limits;
 use upc_text::Gate;
 use upc_values::{Journal, Listing};
 
 // Rounds of all, until the run is over.
-fn rounds<R: Threads + Wait + Sync, G: Gate>(
+fn rounds<R: Wait, G: Gate>(
     rt: &R,
     alloc: Global,
-    places: &mut [Place],
+    places: &mut Vec<Place>,
+    boxes: &[PostBox<Part>],
+    owners: &mut [Owner<Part>],
     code: &Code,
     cell: &TurnCell<World>,
     gate: &G,
 ) -> Result<(), OutOfMemory>
-    requires some { 0 < length places.old }
-    requires team { (f : Outcomes) × IsTeam (id_of cell.now) (started cell.now).0 code.now f places.old }
+    requires some { 0 < length places.old.items }
+    requires staff { IsStaffed cell.now code.now boxes.now owners.old (length places.old.items) }
+    requires team { (f : Outcomes) × IsTeam (id_of cell.now) (started cell.now).0 code.now f places.old.items }
+    ensures idle { AreIdle boxes.now owners.new }
     ensures over { IfOk result (λ _. (f : Outcomes)
-        → IsTeam (id_of cell.now) (started cell.now).0 code.now f places.old
-        → IsDone (id_of cell.now) (started cell.now).0 code.now f places.new) }
+        → IsTeam (id_of cell.now) (started cell.now).0 code.now f places.old.items
+        → IsDone (id_of cell.now) (started cell.now).0 code.now f places.new.items) }
     ensures rounds { IfOk result (λ _. (f : Outcomes)
-        → IsTeam (id_of cell.now) (started cell.now).0 code.now f places.old
-        → HasEnded (started cell.now).0 f places.new) }
-    ensures same { IfOk result (λ _. AreSame (workers_of places.old) (workers_of places.new)) }
+        → IsTeam (id_of cell.now) (started cell.now).0 code.now f places.old.items
+        → HasEnded (started cell.now).0 f places.new.items) }
+    ensures same { IfOk result (λ _. AreSame (workers_of places.old.items) (workers_of places.new.items)) }
 {
     let mut number = 0u64;
     for _ in rt.forever() {
         number = number.saturating_add(1);
-        go(rt, places, code, cell, gate, number)?;
-        if stopped(places).is_some() {
+        go(rt, places, boxes, owners, code, cell, gate, number)?;
+        if stopped(places.as_slice()).is_some() {
             halt_all(places);
             return Ok(());
         }
-        if all_ended(places) {
+        if all_ended(places.as_slice()) {
             return Ok(());
         }
         let none = none_goes(rt, alloc, places, cell)?;
@@ -66,6 +78,113 @@ fn rounds<R: Threads + Wait + Sync, G: Gate>(
         }
     }
     unreachable!()
+}
+
+// What the conductor does: all rounds, after which it dismisses the others.
+fn conduct<R: Wait, G: Gate>(
+    rt: &R,
+    alloc: Global,
+    mut places: Vec<Place>,
+    boxes: &[PostBox<Part>],
+    mut owners: Vec<Owner<Part>>,
+    code: &Code,
+    cell: &TurnCell<World>,
+    gate: &G,
+) -> Result<Vec<Place>, OutOfMemory>
+    requires some { 0 < length places.items }
+    requires staff { IsStaffed cell.now code.now boxes.now owners.items (length places.items) }
+    requires team { (f : Outcomes) × IsTeam (id_of cell.now) (started cell.now).0 code.now f places.items }
+    ensures { IfOk result (λ ms. HasRun cell.now code.now places.items ms.items) }
+{
+    let answer = rounds(
+        rt,
+        alloc,
+        &mut places,
+        boxes,
+        owners.as_mut_slice(),
+        code,
+        cell,
+        gate,
+    );
+    dismiss_all(boxes, owners);
+    match answer {
+        Ok(()) => Ok(places),
+        Err(_) => Err(OutOfMemory),
+    }
+}
+
+// All threads but the conductor.
+fn attend_all<R: Threads + Wait + Sync, G: Gate>(
+    rt: &R,
+    boxes: &[PostBox<Part>],
+    doers: &mut [Doer<Part>],
+    code: &Code,
+    cell: &TurnCell<World>,
+    gate: &G,
+)
+    requires work { AreFor cell.now code.now boxes.now }
+    requires many { length doers.old ≡ length boxes.now }
+    requires free { AreFree boxes.now doers.old }
+{
+    if doers.is_empty() {
+        return;
+    }
+    let threads = doers.len();
+    thread::for_each_mut(
+        rt,
+        doers,
+        threads,
+        &|at, doer: &mut Doer<Part>|
+            requires { (at < length boxes.now) × ((b : TaskBox) → IsFor cell.now code.now (slice_index_or boxes.now at b)
+                × IsFree (slice_index_or boxes.now at b) doer.old) }
+        { attend(rt, &boxes[at], doer, code, cell, gate) },
+    );
+}
+
+// How often a thread looks before it sleeps: for about a millisecond, where each has a processor of its own.
+fn looks_for<R: Threads>(rt: &R, threads: u32) -> u32 {
+    match thread::available_parallelism(rt) {
+        Ok(count) if count.get() >= threads as usize => 20_000,
+        _ => 64,
+    }
+}
+
+// All rounds, each task on a thread of its own.
+fn together<R: Threads + Wait + Sync, G: Gate>(
+    rt: &R,
+    alloc: Global,
+    places: Vec<Place>,
+    posts: Row<Part>,
+    code: &Code,
+    cell: &TurnCell<World>,
+    gate: &G,
+) -> Result<Vec<Place>, OutOfMemory>
+    requires some { length places.items ≡ suc (length posts.boxes.items) }
+    requires work { AreFor cell.now code.now posts.boxes.items }
+    requires owners { AreIdle posts.boxes.items posts.owners.items }
+    requires doers { AreFree posts.boxes.items posts.doers.items }
+    requires team { (f : Outcomes) × IsTeam (id_of cell.now) (started cell.now).0 code.now f places.items }
+    ensures { IfOk result (λ ms. HasRun cell.now code.now places.items ms.items) }
+{
+    let Row {
+        boxes,
+        owners,
+        mut doers,
+    } = posts;
+    let boxes = boxes.as_slice();
+    let doers = doers.as_mut_slice();
+    let (answer, ()) = thread::join(
+        rt,
+        move || -> Result<Vec<Place>, OutOfMemory>
+            requires { (0 < length places.items) × IsStaffed cell.now code.now boxes.now owners.items (length places.items)
+                × ((f : Outcomes) × IsTeam (id_of cell.now) (started cell.now).0 code.now f places.items) }
+            ensures { IfOk result (λ ms. HasRun cell.entry.now code.entry.now places.items ms.items) }
+        { conduct(rt, alloc, places, boxes, owners, code, cell, gate) },
+        ||
+            requires { AreFor cell.now code.now boxes.now × (length doers.now ≡ length boxes.now) × AreFree boxes.now doers.now }
+        { attend_all(rt, boxes, doers, code, cell, gate) },
+    );
+    answer
 }
 
 /// Runs code by rounds, with one thread of the machine for each thread of the code, which has the program's threads and
@@ -107,9 +226,11 @@ pub fn run<R: Threads + Wait + Sync, G: Gate>(
     let seats_room = Vec::with_capacity(alloc, limits.threads as usize)?;
     let strands_room = Vec::with_capacity(alloc, limits.threads as usize)?;
     let (cell, seats) = TurnCell::start(alloc, world, limits.threads)?;
-    let mut places = make_all(alloc, code, limits, seats)?;
-    rounds(rt, alloc, places.as_mut_slice(), code, &cell, gate)?;
-    let (world, strands) = close_all(cell, places, seats_room, strands_room);
+    let places = make_all(alloc, code, limits, seats)?;
+    let looks = looks_for(rt, limits.threads);
+    let posts = make_posts(alloc, &cell, code, limits.threads - 1, looks)?;
+    let after = together(rt, alloc, places, posts, code, &cell, gate)?;
+    let (world, strands) = close_all(cell, after, seats_room, strands_room);
     let history = world.take_history();
     Ok(Journal {
         threads: limits.threads,

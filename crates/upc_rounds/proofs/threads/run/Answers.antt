@@ -1,39 +1,34 @@
-use Rattle.std.proofs.Common.{rules, ℕ, ◌≡◌, ◌<◌, ◌≤◌, ◌++◌, List, [], map, length, take, drop, refl, sym, subst, ap, ◌∙◌, arith}
+use Rattle.std.proofs.Common.{◌≡◌, ◌<◌, map, sym, subst, ap, ◌∙◌}
 use Rattle.turn_cell.specs.layer.Seats.{AreNew, id_of, started}
 use Rattle.upc_values.specs.declared.journal.Journal.{Journal}
-use Rattle.upc_values.specs.Lists.{Numbered}
 use Rattle.upc_values.specs.Openings.{Opening, IsOpening}
 use Rattle.upc_values.specs.History.{IsLegal, EachBelow}
 use Rattle.upc_values.specs.Formed.{AreWellFormed}
 use Rattle.upc_values.specs.Waits.{WaitsFollow}
 use Rattle.upc_task.specs.layer.Sources.{Outcomes, HasOutcomes}
-use Rattle.upc_task.specs.layer.Kept.{IsKept, strand_of}
-use Rattle.upc_rounds_teams.specs.declared.place.Place.{Place}
+use Rattle.upc_task.specs.layer.Kept.{strand_of}
 use Rattle.upc_rounds.specs.layer.Openings.{opening_of}
 use Rattle.upc_rounds_teams.specs.layer.Runs.{AreSame}
-use Rattle.upc_rounds_teams.specs.layer.Teams.{IsSeated, IsTeam, IsDone, HasEnded, workers_of, seen_at, seen_among}
+use Rattle.upc_rounds_teams.specs.layer.Teams.{IsTeam, IsDone, HasEnded, workers_of, seen_among}
 use Rattle.upc_rounds_base.proofs.Openings.{kept_opening}
 use Rattle.upc_rounds_base.proofs.Outcomes.{has_outcomes, there}
 use Rattle.upc_rounds.proofs.Spending.{sound-spent}
-use Rattle.upc_rounds_teams.proofs.Crews.{many-workers}
-use Rattle.upc_rounds.proofs.Beginnings.{given-back}
 use Rattle.upc_rounds.proofs.Whole.{begun-team, done-kept, done-is-ended, done-sound, done-in-time}
 use Rattle.upc_rounds.proofs.threads.run.Goals as goal
 
 pub make_all-requires-clause-code : goal.make_all-requires-clause-code
 make_all-requires-clause-code g c = c.requires.fits.threads ∙ c.requires.same
 
-pub rounds-requires-clause-team : goal.rounds-requires-clause-team
-rounds-requires-clause-team g c κs within =
+pub together-requires-clause-team : goal.together-requires-clause-team
+together-requires-clause-team g c κs within =
     let o : Opening = opening_of c.args.program.now in let l = c.args.limits in let code = c.args.code.now in
     let cell = c.in_ok-cell.cell in let z = id_of cell in let s = c.in_ok-cell.ensures in let ks = c.in_ok-places.places.items in
     let opens : IsOpening o = kept_opening o c.args.program.now.opening in
     let from : (started cell).0 ≡ o = ap (λ v. v.0) s.cell.0 ∙ c.in_ok-world.ensures.1 in
     let new : AreNew z o 0 c.in_ok-cell.seats.items = subst (λ y. AreNew z y 0 c.in_ok-cell.seats.items) c.in_ok-world.ensures.1 s.seats.1 in
-    let is : c.as_mut_slice.result.now ≡ ks = search rules in
-    let begun : (f : Outcomes) → HasOutcomes o code l f → IsTeam z (started cell).0 code f c.as_mut_slice.result.now = λ f has.
-    subst (IsTeam z (started cell).0 code f) (sym is) (subst (λ y. IsTeam z y code f ks) (sym from)
-    (begun-team z o code f ks (c.in_ok-places.ensures.crew z o f new opens has) c.in_ok-places.ensures.fresh)) in
+    let begun : (f : Outcomes) → HasOutcomes o code l f → IsTeam z (started cell).0 code f ks = λ f has.
+    subst (λ y. IsTeam z y code f ks) (sym from)
+    (begun-team z o code f ks (c.in_ok-places.ensures.crew z o f new opens has) c.in_ok-places.ensures.fresh) in
     let given = there c.args.program.now code l c.keep.ensures c.requires.fits c.requires.same c.requires.budget.0 in
     (given.0, begun given.0 given.1)
 
@@ -44,17 +39,14 @@ close_all-world-requires-clause-seated g c =
     let opens : IsOpening o = kept_opening o c.args.program.now.opening in
     let from : (started cell).0 ≡ o = ap (λ v. v.0) s.cell.0 ∙ c.in_ok-world.ensures.1 in
     let new : AreNew z o 0 c.in_ok-cell.seats.items = subst (λ y. AreNew z y 0 c.in_ok-cell.seats.items) c.in_ok-world.ensures.1 s.seats.1 in
-    let is : c.as_mut_slice.result.now ≡ ks = search rules in
-    let ms = c.rounds.new.places in let e = c.in_ok-rounds.ensures in
-    let same : AreSame (workers_of ks) (workers_of ms) = subst (λ x. AreSame (workers_of x) (workers_of ms)) is e.same in
-    let many : length ms ≡ length ks = sym (many-workers ms) ∙ same.many ∙ many-workers ks in
-    let back : take c.in_ok-places.places.len (ms ++ drop (length ms) ks) ≡ ms = given-back c.in_ok-places.places.len ks ms many (search rules) in
-    let begun : (f : Outcomes) → HasOutcomes o code l f → IsTeam z (started cell).0 code f c.as_mut_slice.result.now = λ f has.
-    subst (IsTeam z (started cell).0 code f) (sym is) (subst (λ y. IsTeam z y code f ks) (sym from)
-    (begun-team z o code f ks (c.in_ok-places.ensures.crew z o f new opens has) c.in_ok-places.ensures.fresh)) in
+    let ms = c.in_ok-after.after.items in let e = c.in_ok-after.ensures in
+    let same : AreSame (workers_of ks) (workers_of ms) = e.same in
+    let begun : (f : Outcomes) → HasOutcomes o code l f → IsTeam z (started cell).0 code f ks = λ f has.
+    subst (λ y. IsTeam z y code f ks) (sym from)
+    (begun-team z o code f ks (c.in_ok-places.ensures.crew z o f new opens has) c.in_ok-places.ensures.fresh) in
     let given = there c.args.program.now code l c.keep.ensures c.requires.fits c.requires.same c.requires.budget.0 in
     let done : (f : Outcomes) → HasOutcomes o code l f → IsDone z (started cell).0 code f ms = λ f has. e.over f (begun f has) in
-    subst (λ x. Numbered (IsSeated z (seen_among x)) x) (sym back) (done given.0 given.1).seats
+    (done given.0 given.1).seats
 
 pub close_all-world-requires-clause-ended : goal.close_all-world-requires-clause-ended
 close_all-world-requires-clause-ended g c =
@@ -63,18 +55,14 @@ close_all-world-requires-clause-ended g c =
     let opens : IsOpening o = kept_opening o c.args.program.now.opening in
     let from : (started cell).0 ≡ o = ap (λ v. v.0) s.cell.0 ∙ c.in_ok-world.ensures.1 in
     let new : AreNew z o 0 c.in_ok-cell.seats.items = subst (λ y. AreNew z y 0 c.in_ok-cell.seats.items) c.in_ok-world.ensures.1 s.seats.1 in
-    let is : c.as_mut_slice.result.now ≡ ks = search rules in
-    let ms = c.rounds.new.places in let e = c.in_ok-rounds.ensures in
-    let same : AreSame (workers_of ks) (workers_of ms) = subst (λ x. AreSame (workers_of x) (workers_of ms)) is e.same in
-    let many : length ms ≡ length ks = sym (many-workers ms) ∙ same.many ∙ many-workers ks in
-    let back : take c.in_ok-places.places.len (ms ++ drop (length ms) ks) ≡ ms = given-back c.in_ok-places.places.len ks ms many (search rules) in
-    let begun : (f : Outcomes) → HasOutcomes o code l f → IsTeam z (started cell).0 code f c.as_mut_slice.result.now = λ f has.
-    subst (IsTeam z (started cell).0 code f) (sym is) (subst (λ y. IsTeam z y code f ks) (sym from)
-    (begun-team z o code f ks (c.in_ok-places.ensures.crew z o f new opens has) c.in_ok-places.ensures.fresh)) in
+    let ms = c.in_ok-after.after.items in let e = c.in_ok-after.ensures in
+    let same : AreSame (workers_of ks) (workers_of ms) = e.same in
+    let begun : (f : Outcomes) → HasOutcomes o code l f → IsTeam z (started cell).0 code f ks = λ f has.
+    subst (λ y. IsTeam z y code f ks) (sym from)
+    (begun-team z o code f ks (c.in_ok-places.ensures.crew z o f new opens has) c.in_ok-places.ensures.fresh) in
     let given = there c.args.program.now code l c.keep.ensures c.requires.fits c.requires.same c.requires.budget.0 in
     let done : (f : Outcomes) → HasOutcomes o code l f → IsDone z (started cell).0 code f ms = λ f has. e.over f (begun f has) in
-    subst (Numbered (λ i (k : Place). Rattle.std.proofs.Common.is_some k.task.worker.«end» ≡ Rattle.std.proofs.Common.true)) (sym back)
-    (done-is-ended z (started cell).0 code given.0 ms (done given.0 given.1))
+    done-is-ended z (started cell).0 code given.0 ms (done given.0 given.1)
 
 pub returns-clause-sound : goal.returns-clause-sound
 returns-clause-sound g c = λ f h.
@@ -83,22 +71,18 @@ returns-clause-sound g c = λ f h.
     let opens : IsOpening o = kept_opening o c.args.program.now.opening in
     let from : (started cell).0 ≡ o = ap (λ v. v.0) s.cell.0 ∙ c.in_ok-world.ensures.1 in
     let new : AreNew z o 0 c.in_ok-cell.seats.items = subst (λ y. AreNew z y 0 c.in_ok-cell.seats.items) c.in_ok-world.ensures.1 s.seats.1 in
-    let is : c.as_mut_slice.result.now ≡ ks = search rules in
-    let ms = c.rounds.new.places in let e = c.in_ok-rounds.ensures in
-    let same : AreSame (workers_of ks) (workers_of ms) = subst (λ x. AreSame (workers_of x) (workers_of ms)) is e.same in
-    let many : length ms ≡ length ks = sym (many-workers ms) ∙ same.many ∙ many-workers ks in
-    let back : take c.in_ok-places.places.len (ms ++ drop (length ms) ks) ≡ ms = given-back c.in_ok-places.places.len ks ms many (search rules) in
-    let begun : (f : Outcomes) → HasOutcomes o code l f → IsTeam z (started cell).0 code f c.as_mut_slice.result.now = λ f has.
-    subst (IsTeam z (started cell).0 code f) (sym is) (subst (λ y. IsTeam z y code f ks) (sym from)
-    (begun-team z o code f ks (c.in_ok-places.ensures.crew z o f new opens has) c.in_ok-places.ensures.fresh)) in
+    let ms = c.in_ok-after.after.items in let e = c.in_ok-after.ensures in
+    let same : AreSame (workers_of ks) (workers_of ms) = e.same in
+    let begun : (f : Outcomes) → HasOutcomes o code l f → IsTeam z (started cell).0 code f ks = λ f has.
+    subst (λ y. IsTeam z y code f ks) (sym from)
+    (begun-team z o code f ks (c.in_ok-places.ensures.crew z o f new opens has) c.in_ok-places.ensures.fresh) in
     let done : (f : Outcomes) → HasOutcomes o code l f → IsDone z (started cell).0 code f ms = λ f has. e.over f (begun f has) in
     let took = c.take_history-history.ensures in let closed = c.close_all-world.ensures in let world = c.close_all-world.result.0 in let history = c.take_history-history.result in
     let opened : world.0 ≡ o = closed.opening ∙ from in
-    let whole : history ≡ seen_among ms = took.taken ∙ closed.history ∙ ap seen_among back in
+    let whole : history ≡ seen_among ms = took.taken ∙ closed.history in
     let made : (f : Outcomes) → HasOutcomes o code l f → c.from_vec.result ≡ map (strand_of f) (workers_of ms) = λ f has.
     c.from_vec.ensures ∙ closed.strands (started cell).0 code f
-    (subst (Numbered (λ i (k : Place). IsKept (started cell).0 code f (seen_at k) k.task.worker)) (sym back) (done-kept z (started cell).0 code f ms (done f has)))
-    ∙ ap (λ x. map (strand_of f) (workers_of x)) back in
+    (done-kept z (started cell).0 code f ms (done f has)) in
     let legal : IsLegal o history = subst (IsLegal o) (sym took.taken) (subst (λ y. IsLegal y world.1) opened took.legal) in
     let formed : AreWellFormed o history = subst (AreWellFormed o) (sym took.taken) (subst (λ y. AreWellFormed y world.1) opened took.formed) in
     let below : EachBelow o.threads history = subst (EachBelow o.threads) (sym took.taken) (subst (λ y. EachBelow y.threads world.1) opened took.below) in
@@ -114,7 +98,6 @@ returns-clause-waits g c =
     let opens : IsOpening o = kept_opening o c.args.program.now.opening in
     let from : (started cell).0 ≡ o = ap (λ v. v.0) s.cell.0 ∙ c.in_ok-world.ensures.1 in
     let new : AreNew z o 0 c.in_ok-cell.seats.items = subst (λ y. AreNew z y 0 c.in_ok-cell.seats.items) c.in_ok-world.ensures.1 s.seats.1 in
-    let is : c.as_mut_slice.result.now ≡ ks = search rules in
     let took = c.take_history-history.ensures in let world = c.close_all-world.result.0 in
     let opened : world.0 ≡ o = c.close_all-world.ensures.opening ∙ from in
     subst (λ n. WaitsFollow n c.take_history-history.result) c.requires.same
@@ -136,22 +119,18 @@ returns-clause-rounds g c = λ f h.
     let opens : IsOpening o = kept_opening o c.args.program.now.opening in
     let from : (started cell).0 ≡ o = ap (λ v. v.0) s.cell.0 ∙ c.in_ok-world.ensures.1 in
     let new : AreNew z o 0 c.in_ok-cell.seats.items = subst (λ y. AreNew z y 0 c.in_ok-cell.seats.items) c.in_ok-world.ensures.1 s.seats.1 in
-    let is : c.as_mut_slice.result.now ≡ ks = search rules in
-    let ms = c.rounds.new.places in let e = c.in_ok-rounds.ensures in
-    let same : AreSame (workers_of ks) (workers_of ms) = subst (λ x. AreSame (workers_of x) (workers_of ms)) is e.same in
-    let many : length ms ≡ length ks = sym (many-workers ms) ∙ same.many ∙ many-workers ks in
-    let back : take c.in_ok-places.places.len (ms ++ drop (length ms) ks) ≡ ms = given-back c.in_ok-places.places.len ks ms many (search rules) in
-    let begun : (f : Outcomes) → HasOutcomes o code l f → IsTeam z (started cell).0 code f c.as_mut_slice.result.now = λ f has.
-    subst (IsTeam z (started cell).0 code f) (sym is) (subst (λ y. IsTeam z y code f ks) (sym from)
-    (begun-team z o code f ks (c.in_ok-places.ensures.crew z o f new opens has) c.in_ok-places.ensures.fresh)) in
+    let ms = c.in_ok-after.after.items in let e = c.in_ok-after.ensures in
+    let same : AreSame (workers_of ks) (workers_of ms) = e.same in
+    let begun : (f : Outcomes) → HasOutcomes o code l f → IsTeam z (started cell).0 code f ks = λ f has.
+    subst (λ y. IsTeam z y code f ks) (sym from)
+    (begun-team z o code f ks (c.in_ok-places.ensures.crew z o f new opens has) c.in_ok-places.ensures.fresh) in
     let done : (f : Outcomes) → HasOutcomes o code l f → IsDone z (started cell).0 code f ms = λ f has. e.over f (begun f has) in
     let took = c.take_history-history.ensures in let closed = c.close_all-world.ensures in let world = c.close_all-world.result.0 in let history = c.take_history-history.result in
     let opened : world.0 ≡ o = closed.opening ∙ from in
-    let whole : history ≡ seen_among ms = took.taken ∙ closed.history ∙ ap seen_among back in
+    let whole : history ≡ seen_among ms = took.taken ∙ closed.history in
     let made : (f : Outcomes) → HasOutcomes o code l f → c.from_vec.result ≡ map (strand_of f) (workers_of ms) = λ f has.
     c.from_vec.ensures ∙ closed.strands (started cell).0 code f
-    (subst (Numbered (λ i (k : Place). IsKept (started cell).0 code f (seen_at k) k.task.worker)) (sym back) (done-kept z (started cell).0 code f ms (done f has)))
-    ∙ ap (λ x. map (strand_of f) (workers_of x)) back in
+    (done-kept z (started cell).0 code f ms (done f has)) in
     let has : HasOutcomes o code l (f l.budget) =
     has_outcomes o code l opens c.keep.ensures c.requires.fits c.requires.same c.requires.budget.0 (f l.budget) h in
     done-in-time z o code f l ks ms c.from_vec.result history (subst (λ y. IsDone z y code (f l.budget) ms) from (done (f l.budget) has))
