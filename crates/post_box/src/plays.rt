@@ -2,7 +2,8 @@
 ghost use Rattle.post_box.specs.declared.view.Role.TheVariants.{First};
 ghost use Rattle.post_box.specs.layer.Boxes.{view};
 ghost use Rattle.std.specs.Prelude.{None};
-ghost use Rattle.post_box.specs.code.Rule.{Stands, begun, posted_as, taken, given, had_back, retracted, as_owner, as_doer};
+ghost use Rattle.post_box.specs.code.Rule.{Stands, begun, posted_as, taken, given, had_back, retracted};
+ghost use Rattle.post_box.specs.code.Rule.{as_owner, as_doer};
 
 use crate::view::View;
 use crate::work::Work;

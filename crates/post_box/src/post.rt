@@ -21,7 +21,8 @@ pub struct Owner<W: Work> {
     pub(crate) looks: u32,
 }
 
-/// The place of the thread that takes items, works on them and gives them back, and how often it looks before it sleeps.
+/// The place of the thread that takes items, works on them and gives them back, and how often it looks before it
+/// sleeps.
 #[derive(Drop)]
 pub struct Doer<W: Work> {
     pub(crate) place: Seat<Option<(W::Item, u64)>, View<W::Item, W>>,

@@ -1,5 +1,5 @@
-//! Tests of turns at a cell, of posts, of write buffers, of the shared heap, of histories and runs by hand, and of the text of a
-//! run.
+//! Tests of turns at a cell, of posts, of write buffers, of the shared heap, of histories and runs by hand, and of the
+//! text of a run.
 #![tactic(auto)]
 
 #[cfg(test)]

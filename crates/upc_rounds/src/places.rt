@@ -39,7 +39,8 @@ pub(crate) fn none_goes<R: Wait>(
         → IsCrew (id_of cell.now) (started cell.now).0 c f places.new.items
         × (seen_among places.new.items ≡ seen_among places.old.items)) }
     ensures yes { IfOk result (λ none. none ≡ true → Numbered
-        (λ _ k. k.«end» ≡ None → Wanting (started cell.now).0 (seen_among places.new.items) k) (workers_of places.new.items)) }
+        (λ _ k. k.«end» ≡ None → Wanting (started cell.now).0 (seen_among places.new.items) k)
+        (workers_of places.new.items)) }
     ensures no { IfOk result (λ none. none ≡ false → (at : ℕ)
         × Moving (started cell.now).0 (seen_among places.new.items) (workers_of places.new.items) at) }
 {

@@ -135,7 +135,8 @@ fn attend_all<R: Threads + Wait + Sync, G: Gate>(
         doers,
         threads,
         &|at, doer: &mut Doer<Part>|
-            requires { (at < length boxes.now) × ((b : TaskBox) → IsFor cell.now code.now (slice_index_or boxes.now at b)
+            requires { (at < length boxes.now)
+                × ((b : TaskBox) → IsFor cell.now code.now (slice_index_or boxes.now at b)
                 × IsFree (slice_index_or boxes.now at b) doer.old) }
         { attend(rt, &boxes[at], doer, code, cell, gate) },
     );
@@ -149,7 +150,7 @@ fn looks_for<R: Threads>(rt: &R, threads: u32) -> u32 {
     }
 }
 
-// All rounds, each task on a thread of its own.
+// All rounds, each task on a thread of its own. One task alone needs no other thread.
 fn together<R: Threads + Wait + Sync, G: Gate>(
     rt: &R,
     alloc: Global,
@@ -172,16 +173,21 @@ fn together<R: Threads + Wait + Sync, G: Gate>(
         mut doers,
     } = posts;
     let boxes = boxes.as_slice();
+    if boxes.is_empty() {
+        return conduct(rt, alloc, places, boxes, owners, code, cell, gate);
+    }
     let doers = doers.as_mut_slice();
     let (answer, ()) = thread::join(
         rt,
         move || -> Result<Vec<Place>, OutOfMemory>
-            requires { (0 < length places.items) × IsStaffed cell.now code.now boxes.now owners.items (length places.items)
+            requires { (0 < length places.items)
+                × IsStaffed cell.now code.now boxes.now owners.items (length places.items)
                 × ((f : Outcomes) × IsTeam (id_of cell.now) (started cell.now).0 code.now f places.items) }
             ensures { IfOk result (λ ms. HasRun cell.entry.now code.entry.now places.items ms.items) }
         { conduct(rt, alloc, places, boxes, owners, code, cell, gate) },
         ||
-            requires { AreFor cell.now code.now boxes.now × (length doers.now ≡ length boxes.now) × AreFree boxes.now doers.now }
+            requires { AreFor cell.now code.now boxes.now × (length doers.now ≡ length boxes.now)
+                × AreFree boxes.now doers.now }
         { attend_all(rt, boxes, doers, code, cell, gate) },
     );
     answer

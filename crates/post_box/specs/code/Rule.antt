@@ -8,8 +8,8 @@ use Rattle.post_box.specs.declared.view.View.{View}
 use Rattle.post_box.specs.declared.view.Role.TheVariants.{First, Ready, Owner, Doer}
 use Rattle.post_box.specs.layer.Boxes.{view}
 
--- Where the item is: nowhere, before the slot is in hand, before the view is cut, and between two items; in the slot; at
--- the doer; and in the slot again, with what it was before.
+-- Where the item is: nowhere, before the slot is in hand, before the view is cut, and between two items; in the slot;
+-- at the doer; in the slot again, with what it was before; and nowhere any more.
 pub data Phase (I : Type 0) : Type 0 where
   fresh : Phase I
   ready : Phase I

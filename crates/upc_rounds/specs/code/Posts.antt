@@ -37,7 +37,8 @@ abbrev pub AreFor : Cell → Codes → List TaskBox → Type 0
 AreFor cell code bs = (i : ℕ) (b : TaskBox) → i < length bs → IsFor cell code (slice_index_or bs i b)
 
 -- The boxes are for this cell and this code, one for each of the places but the first, and no place is out.
-pub record IsStaffed (cell : Cell) (code : Codes) (bs : List TaskBox) (os : List (Owner Part Place)) (places : ℕ) : Type 0 where
+pub record IsStaffed (cell : Cell) (code : Codes) (bs : List TaskBox) (os : List (Owner Part Place)) (places : ℕ)
+    : Type 0 where
   pub many : places ≡ suc (length bs)
   pub owned : length os ≡ length bs
   pub work : AreFor cell code bs
