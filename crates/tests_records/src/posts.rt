@@ -1,7 +1,8 @@
-//! Two threads, of which one posts numbers and has their doubles back.
+//! Two threads, of which one posts numbers and has them back with something added.
 
-ghost use Rattle.std.specs.Prelude.{ℕ, ◌≡◌, ◌+◌, ◌*◌, ◌<◌, ◌^◌};
-ghost use Rattle.post_box.specs.layer.Boxes.{IsFree, IsIdle, work_of};
+ghost use Rattle.std.specs.Prelude.{◌≡◌, ◌+◌, ◌<◌};
+ghost use Rattle.post_box.specs.layer.Boxes.{IsFree, IsIdle, WaitsFor, work_of};
+ghost use Rattle.tests_records.specs.declared.posts.Number.{Number};
 
 use post_box::{Doer, Owner, PostBox, Work};
 use std::alloc::{AllocError as OutOfMemory, Global};
@@ -46,7 +47,21 @@ fn attend<R: Wait>(rt: &R, post: &PostBox<Plus>, mut doer: Doer<Plus>, more: u32
     unreachable!()
 }
 
-// What became of a number, whether or not somebody took it.
+// What became of the number that was posted, or the number itself if nobody has taken it.
+fn had_back<R: Wait>(rt: &R, post: &PostBox<Plus>, owner: &mut Owner<Plus>) -> u64
+    requires { (x : Number) × WaitsFor post.now owner.old x }
+    ensures { IsIdle post.now owner.new }
+{
+    match post.retract(owner) {
+        Some(Number { value }) => value,
+        None => {
+            let Number { value } = post.back(rt, owner);
+            value
+        }
+    }
+}
+
+// What became of a number, which may be the number itself where it may be retracted.
 fn posted<R: Wait>(
     rt: &R,
     post: &PostBox<Plus>,
@@ -59,8 +74,8 @@ fn posted<R: Wait>(
     ensures { IsIdle post.now owner.new }
 {
     post.post(owner, Number { value }, 1);
-    if retracts && let Some(Number { value }) = post.retract(owner) {
-        return value;
+    if retracts {
+        return had_back(rt, post, owner);
     }
     let Number { value } = post.back(rt, owner);
     value
