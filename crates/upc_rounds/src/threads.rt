@@ -177,18 +177,19 @@ fn together<R: Threads + Wait + Sync, G: Gate>(
         return conduct(rt, alloc, places, boxes, owners, code, cell, gate);
     }
     let doers = doers.as_mut_slice();
-    let (answer, ()) = thread::join(
+    // Where no thread can be made, the second of these runs first.
+    let ((), answer) = thread::join(
         rt,
+        ||
+            requires { AreFor cell.now code.now boxes.now × (length doers.now ≡ length boxes.now)
+                × AreFree boxes.now doers.now }
+        { attend_all(rt, boxes, doers, code, cell, gate) },
         move || -> Result<Vec<Place>, OutOfMemory>
             requires { (0 < length places.items)
                 × IsStaffed cell.now code.now boxes.now owners.items (length places.items)
                 × ((f : Outcomes) × IsTeam (id_of cell.now) (started cell.now).0 code.now f places.items) }
             ensures { IfOk result (λ ms. HasRun cell.entry.now code.entry.now places.items ms.items) }
         { conduct(rt, alloc, places, boxes, owners, code, cell, gate) },
-        ||
-            requires { AreFor cell.now code.now boxes.now × (length doers.now ≡ length boxes.now)
-                × AreFree boxes.now doers.now }
-        { attend_all(rt, boxes, doers, code, cell, gate) },
     );
     answer
 }
