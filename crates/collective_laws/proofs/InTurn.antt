@@ -4,7 +4,8 @@ use Rattle.upc_values.specs.declared.action.Action.{Action}
 use Rattle.upc_values.specs.declared.record.ToldEnd.{ToldEnd}
 use Rattle.upc_values.specs.declared.record.ToldEnd.TheVariants as told
 use Rattle.upc_values.specs.Outcomes.{Outcome}
-use Rattle.thread_steps.specs.layer.Fronts.{turned_by, IsInTurn}
+use Rattle.thread_steps.specs.layer.Fronts.{IsInTurn}
+use Rattle.thread_steps.specs.layer.Parts.{turned_by}
 use Rattle.source_meaning.specs.Laws.{IsSettled, KeepsTurns}
 use Rattle.collective_laws_histories.proofs.Turning.{turned-append, no-turn}
 

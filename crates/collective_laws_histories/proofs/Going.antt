@@ -11,6 +11,7 @@ use Rattle.block_layout.specs.declared.kind.Shape.{Shape}
 use Rattle.block_layout.specs.declared.run_error.TheConstants.{OUT_OF_OBJECT, POINTER_RANGE, CELL_TYPE, LIBRARY_ARGS}
 use Rattle.block_layout.specs.Shapes.{kind_size}
 use Rattle.upc_values.specs.declared.scalar.Scalar.{Scalar}
+use Rattle.upc_values.specs.layer.Parts.{unless_refused, outside, number_of, permutation, is_at}
 use Rattle.upc_values.specs.declared.scalar.Mark.TheVariants.{Absent}
 use Rattle.upc_values.specs.declared.action.Action.{Action}
 use Rattle.upc_values.specs.declared.action.Action.TheVariants as act
@@ -22,9 +23,9 @@ use Rattle.upc_values.specs.History.{is_wait, each_thread}
 use Rattle.upc_values.specs.Reductions.{Reduction, reduction, step, element_kind}
 use Rattle.upc_values.specs.Views.{byte_at, leaves_range, is_cell, location_behind}
 use Rattle.upc_values.specs.Expansion.{Expansion, Gives, Fails, Reads, Asks, Loads, Stores, nothing, bind}
-use Rattle.upc_values.specs.Expansion.{unless_refused, does, barrier, each_in_turn, gathered, refused_by}
-use Rattle.upc_values.specs.Expansions.{Part, parts, cells, outside, cut, differ, copied, move, some_bytes, number_of}
-use Rattle.upc_values.specs.Expansions.{number_at, number_put, permutation, is_at, chosen, permute, operands, paired}
+use Rattle.upc_values.specs.Expansion.{does, barrier, each_in_turn, gathered, refused_by}
+use Rattle.upc_values.specs.Expansions.{Part, parts, cells, cut, differ, copied, move, some_bytes}
+use Rattle.upc_values.specs.Expansions.{number_at, number_put, chosen, permute, operands, paired}
 use Rattle.upc_values.specs.Expansions.{outcome, total, totals, reduce, reduce_prefixes, are_cells, tests, flags_of}
 use Rattle.upc_values.specs.Expansions.{entry, exit, work, collective}
 use Rattle.upc_values.specs.Together.{is_synchronised, is_synchronised_call}

@@ -8,7 +8,8 @@ use Rattle.upc_values.specs.declared.action.Action.{Action}
 use Rattle.upc_values.specs.declared.action.Action.TheVariants as act
 use Rattle.upc_values.specs.History.{is_notify, is_wait}
 use Rattle.collective_laws_histories.proofs.Lists.{count-yes, count-no}
-use Rattle.thread_steps.specs.layer.Fronts.{turned, turned_by, IsInTurn}
+use Rattle.thread_steps.specs.layer.Fronts.{turned, IsInTurn}
+use Rattle.thread_steps.specs.layer.Parts.{turned_by}
 
 pub turned-append : (s : Option Bool) (xs ys : List Action) → turned_by s (xs ++ ys) ≡ turned_by (turned_by s xs) ys
 turned-append s [] ys = refl

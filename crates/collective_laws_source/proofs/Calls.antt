@@ -8,6 +8,7 @@ use Rattle.block_layout.specs.declared.kind.Shape.{Shape}
 use Rattle.block_layout.specs.declared.place.Loc.{Loc}
 use Rattle.block_layout.specs.declared.place.LocalPtr.{LocalPtr}
 use Rattle.upc_values.specs.declared.scalar.Scalar.{Scalar}
+use Rattle.upc_values.specs.layer.Parts.{unless_refused}
 use Rattle.upc_values.specs.declared.scalar.Value.{Value}
 use Rattle.upc_values.specs.declared.scalar.Value.TheVariants as value
 use Rattle.upc_values.specs.declared.action.Action.{Action}
@@ -19,13 +20,13 @@ use Rattle.upc_values.specs.Calls.{call_of}
 use Rattle.upc_values.specs.Scalars.{zero}
 use Rattle.upc_values.specs.Formed.{fits, is_read}
 use Rattle.upc_values.specs.Expansion.{Expansion, Gives, Fails, Reads, Asks, Loads, Stores, value_in, refused_by}
-use Rattle.upc_values.specs.Expansion.{unless_refused}
 use Rattle.upc_values.specs.Expansion as e
 use Rattle.upc_values.specs.Expansions as c
 use Rattle.upc_values.specs.LibraryCalls as l
 use Rattle.private_store.specs.Live.{Live}
 use Rattle.private_store.specs.Cells.{loaded, stored}
 use Rattle.thread_steps.specs.States.{Thread, State, Res, Val, Over, Unfinished, bind, give, valued}
+use Rattle.thread_steps.specs.layer.Parts as parts
 use Rattle.thread_steps.specs.Values.{kept, scalar_of}
 use Rattle.thread_steps.specs.Actions as a
 use Rattle.thread_steps.specs.Accesses as x
@@ -242,7 +243,7 @@ module _ (τ : Thread) where
     store_first s σ Unfinished h = tt
 
     store_result : (r : Result Live ℕ) (σ : State) → SameDepth σ.store r → depth σ.store ≡ d
-        → Follows d σ (Stores q kind v after) (bind (x.with_store at σ r) (λ u. x.expanded τ at after))
+        → Follows d σ (Stores q kind v after) (bind (parts.with_store at σ r) (λ u. x.expanded τ at after))
     store_result (Ok s) σ kept same =
         let υ : State = record σ { store = s } in
         store_first s σ (x.expanded τ at after υ) (go υ (kept ∙ same))

@@ -20,10 +20,12 @@ use Rattle.upc_values.specs.LibraryCalls.{library_call, meet_number}
 use Rattle.upc_values.specs.Expansion.{Expansion}
 use Rattle.private_store.specs.Live.{Live, called, returned}
 use Rattle.thread_steps.specs.States.{Thread, State, Res, Val, Over, Unfinished, bind, Doing, ◌>>=◌, ◌>>◌}
+use Rattle.thread_steps.specs.layer.Parts.{is_deep}
+use Rattle.thread_steps.specs.layer.Parts as parts
 use Rattle.thread_steps.specs.States.{give, skip, know, change, choose, over, fault, fault_if}
 use Rattle.thread_steps.specs.Actions as a
 use Rattle.thread_steps.specs.Accesses as x
-use Rattle.thread_steps.specs.Blocks.{begin_call, end_call, is_deep, with_live}
+use Rattle.thread_steps.specs.Blocks.{begin_call, end_call, with_live}
 use Rattle.thread_steps.specs.Library as l
 use Rattle.thread_steps.proofs.Depths.{depth, SameDepth, called_depth, returned_depth, not_deep}
 use Rattle.thread_steps.proofs.Kept.{IsBasic, Ignores, basic_choose_kept, basic_fault_if_kept}
@@ -80,11 +82,11 @@ module _ (τ : Thread) where
       on_result σ Unfinished h = tt
 
   store_going : (n d : ℕ) (at : Place) (f : Live → Result Live ℕ) → ((s : Live) → SameDepth s (f s))
-      → Going n d (Unit {0}) (λ σ. x.with_store at σ (f σ.store))
+      → Going n d (Unit {0}) (λ σ. parts.with_store at σ (f σ.store))
   store_going n d at f kept = record { by = λ σ same. on_store (f σ.store) σ same (kept σ.store) }
     where
       on_store : (r : Result Live ℕ) (σ : State) → depth σ.store ≡ d → SameDepth σ.store r
-          → Leads τ d σ (x.with_store at σ r)
+          → Leads τ d σ (parts.with_store at σ r)
       on_store (Ok s) σ same k = record {
         deep = k ∙ same;
         did = [];
@@ -169,8 +171,8 @@ module _ (τ : Thread) where
   wait_going n d at mark =
       then_going n d (Unit {0}) (Unit {0}) (fault_if a.is_controlled BARRIER_IN_FORALL at) _
       (fault_if_going n d a.is_controlled BARRIER_IN_FORALL at (λ σ as_ rs. refl)) (λ u.
-      then_going n d (Unit {0}) (Unit {0}) (fault_if a.is_not_notified PHASE_ORDER at) _
-      (fault_if_going n d a.is_not_notified PHASE_ORDER at (λ σ as_ rs. refl)) (λ v.
+      then_going n d (Unit {0}) (Unit {0}) (fault_if parts.is_not_notified PHASE_ORDER at) _
+      (fault_if_going n d parts.is_not_notified PHASE_ORDER at (λ σ as_ rs. refl)) (λ v.
       then_going n d (Unit {0}) (Unit {0}) (a.does τ at (act.Wait mark)) _
       (does_going n d at (act.Wait mark) tt) (λ w. noted_going n d false)))
 
@@ -188,9 +190,9 @@ module _ (τ : Thread) where
   tick_going : (n d : ℕ) → Going n d (Unit {0}) (a.tick τ)
   unfolding a.tick
   tick_going n d =
-      then_going n d (Unit {0}) (Unit {0}) (change a.with_tick) _
-      (change_going n d a.with_tick (λ σ. refl) (λ σ. none_did σ)) (λ u.
-      then_going n d ℕ (Unit {0}) (know a.ticks_of) _ (record { by = λ σ same. here d σ same }) (λ count.
+      then_going n d (Unit {0}) (Unit {0}) (change parts.with_tick) _
+      (change_going n d parts.with_tick (λ σ. refl) (λ σ. none_did σ)) (λ u.
+      then_going n d ℕ (Unit {0}) (know parts.ticks_of) _ (record { by = λ σ same. here d σ same }) (λ count.
       then_going n d (Unit {0}) (Unit {0}) (choose (count % 1024 == 0) (do a.ask τ None act.Beat; skip) skip) _
       (beat_going n d (count % 1024 == 0)) (λ v. spent_going n d (count == τ.budget))))
 

@@ -23,6 +23,7 @@ use Rattle.upc_values.specs.declared.record.ToldEnd.TheVariants as told
 use Rattle.upc_values.specs.declared.library.LibraryCall.{LibraryCall}
 use Rattle.private_store.specs.Live.{entered, left, controls}
 use Rattle.thread_steps.specs.declared.cast.CastTo.{CastTo}
+use Rattle.thread_steps.specs.layer.Parts as parts
 use Rattle.thread_steps.specs.declared.elements.Elements.{Elements}
 use Rattle.thread_steps.specs.States.{Thread, State, Doing, ◌>>=◌, ◌>>◌, give, skip, choose, fault_if, valued}
 use Rattle.thread_steps.specs.States.{Unfinished}
@@ -186,8 +187,8 @@ module _ (τ : Thread) (P : Property) (K : IsKept τ P) (n d : ℕ) where
   pub open_kept : (from : ℕ) (shapes : List Shape) (at : Place) → P n d (Unit {0}) (b.open_block from shapes at)
   unfolding b.open_block
   open_kept from shapes at =
-      first (fault_if (b.is_too_large shapes) PRIVATE_SPACE at) _
-      (fault_if_kept (b.is_too_large shapes) PRIVATE_SPACE at (λ σ as_ rs. refl)) (λ u.
+      first (fault_if (parts.is_too_large shapes) PRIVATE_SPACE at) _
+      (fault_if_kept (parts.is_too_large shapes) PRIVATE_SPACE at (λ σ as_ rs. refl)) (λ u.
       K.basic.of_store n d at (λ s. Ok (entered from shapes s)) (λ s. refl))
 
   pub close_kept : (at : Place) → P n d (Unit {0}) b.close_block
@@ -200,11 +201,11 @@ module _ (τ : Thread) (P : Property) (K : IsKept τ P) (n d : ℕ) where
 
   pub control_kept : (at : Place) → P n d (Unit {0}) b.control
   unfolding b.control
-  control_kept at = K.basic.of_store n d at (λ s. Ok (b.one_more s)) (λ s. recounted_depth (suc (controls s)) s)
+  control_kept at = K.basic.of_store n d at (λ s. Ok (parts.one_more s)) (λ s. recounted_depth (suc (controls s)) s)
 
   pub release_kept : (at : Place) → P n d (Unit {0}) b.release
   unfolding b.release
-  release_kept at = K.basic.of_store n d at (λ s. Ok (b.one_less s)) (λ s. recounted_depth (pred (controls s)) s)
+  release_kept at = K.basic.of_store n d at (λ s. Ok (parts.one_less s)) (λ s. recounted_depth (pred (controls s)) s)
 
   pub mine_kept : (at : Place) (q : Value) → P n d Value (b.mine τ at q)
   unfolding b.mine

@@ -15,12 +15,13 @@ use Rattle.block_layout.specs.Cells.{same_cells}
 use Rattle.block_layout.specs.Pointers.{location}
 use Rattle.block_layout.proofs.Same.{same_exact}
 use Rattle.upc_values.specs.declared.scalar.Scalar.{Scalar}
+use Rattle.upc_values.specs.layer.Parts.{outside, placed_kind}
 use Rattle.upc_values.specs.declared.action.Action.TheVariants as act
 use Rattle.upc_values.specs.Lists.{Has}
 use Rattle.upc_values.specs.Shapes.{kind_at}
 use Rattle.upc_values.specs.Expansion.{Reads, does, each_in_turn}
-use Rattle.upc_values.specs.Expansions.{Part, move, copied, cells, cut, differ, outside}
-use Rattle.upc_values.specs.Views.{location_behind, cells_within, placed_kind, shape_at, leaves_range}
+use Rattle.upc_values.specs.Expansions.{Part, move, copied, cells, cut, differ}
+use Rattle.upc_values.specs.Views.{location_behind, cells_within, shape_at, leaves_range}
 use Rattle.upc_values.specs.Collective.{Holding}
 use Rattle.collective_laws_words.specs.layer.Steps.{Step, Performs}
 use Rattle.collective_laws_words.specs.layer.Interface.{Wrote, ReadSo}

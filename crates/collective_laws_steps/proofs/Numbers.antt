@@ -12,13 +12,14 @@ use Rattle.block_layout.specs.declared.kind.Kind.{Kind}
 use Rattle.block_layout.specs.declared.kind.Shape.{Shape}
 use Rattle.block_layout.specs.Pointers.{location}
 use Rattle.upc_values.specs.declared.scalar.Scalar.{Scalar}
+use Rattle.upc_values.specs.layer.Parts.{number_of}
 use Rattle.upc_values.specs.declared.scalar.Scalar.TheVariants.{Int, Shared, Lock}
 use Rattle.upc_values.specs.declared.action.Action.TheVariants as act
 use Rattle.upc_values.specs.declared.action.Reply.TheVariants.{Value}
 use Rattle.upc_values.specs.Lists.{Has}
 use Rattle.upc_values.specs.History.{each_thread}
 use Rattle.upc_values.specs.Expansion.{Expansion, Gives, bind, gathered}
-use Rattle.upc_values.specs.Expansions.{number_of, number_at}
+use Rattle.upc_values.specs.Expansions.{number_at}
 use Rattle.upc_values.specs.Collective.{Holding, number_in}
 use Rattle.collective_laws_words.specs.layer.Steps.{Step, Performs}
 use Rattle.collective_laws_words.specs.layer.Interface.{Wrote, ReadSo}

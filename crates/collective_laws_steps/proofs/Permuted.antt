@@ -15,10 +15,11 @@ use Rattle.block_layout.specs.declared.run_error.TheConstants.{OUT_OF_OBJECT, PO
 use Rattle.block_layout.specs.Pointers.{location}
 use Rattle.block_layout.proofs.Numbers.{row-below}
 use Rattle.upc_values.specs.declared.scalar.Scalar.{Scalar}
+use Rattle.upc_values.specs.layer.Parts.{permutation, is_at, outside}
 use Rattle.upc_values.specs.Calls.Call.{Permutes}
 use Rattle.upc_values.specs.History.{each_thread}
 use Rattle.upc_values.specs.Expansion.{Expansion, bind, gathered, refused_by}
-use Rattle.upc_values.specs.Expansions.{Part, permute, permutation, chosen, is_at, number_at, some_bytes, move, outside}
+use Rattle.upc_values.specs.Expansions.{Part, permute, chosen, number_at, some_bytes, move}
 use Rattle.upc_values.specs.Expansions.{cut}
 use Rattle.upc_values.specs.Views.{byte_at, element, from_phase_0, leaves_range, is_cell}
 use Rattle.upc_values.specs.Collective.{Holding, ArePermuted, number_in}

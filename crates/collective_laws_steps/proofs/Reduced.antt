@@ -15,11 +15,12 @@ use Rattle.block_layout.specs.declared.run_error.TheConstants.{OUT_OF_OBJECT, PO
 use Rattle.block_layout.specs.Pointers.{is_null, location}
 use Rattle.block_layout.specs.Shapes.{kind_size}
 use Rattle.upc_values.specs.declared.scalar.Scalar.{Scalar}
+use Rattle.upc_values.specs.layer.Parts.{outside, operand}
 use Rattle.upc_values.specs.declared.scalar.Scalar.TheVariants.{Int}
 use Rattle.upc_values.specs.Calls.{Reduces, Reduces_prefixes}
 use Rattle.upc_values.specs.Expansion.{Expansion, nothing}
 use Rattle.upc_values.specs.Expansions.{Part, are_flags, are_reduction_args, is_large, is_phase, is_aligned, are_cells}
-use Rattle.upc_values.specs.Expansions.{outside, operand, operands, paired, part, reduce, reduce_prefixes}
+use Rattle.upc_values.specs.Expansions.{operands, paired, part, reduce, reduce_prefixes}
 use Rattle.upc_values.specs.Reductions.{Reduction, reduction, element_kind}
 use Rattle.upc_values.specs.Views.{with_block, leaves_range, is_cell}
 use Rattle.upc_values.specs.Collective.{Holding, HoldsFold, HoldsCollective, folded_by, number_in, numbers}

@@ -16,14 +16,15 @@ use Rattle.block_layout.specs.Pointers.{location}
 use Rattle.block_layout.specs.Shapes.{kind_size}
 use Rattle.block_layout.proofs.Numbers.{row-below}
 use Rattle.upc_values.specs.declared.scalar.Scalar.{Scalar}
+use Rattle.upc_values.specs.layer.Parts.{outside, permutation, is_at, operand}
 use Rattle.upc_values.specs.declared.scalar.Scalar.TheVariants.{Int}
 use Rattle.upc_values.specs.declared.action.Action.TheVariants as act
 use Rattle.upc_values.specs.Calls.{Copies, Permutes, Reduces, Reduces_prefixes, Way}
 use Rattle.upc_values.specs.Lists.{Each, Has}
 use Rattle.upc_values.specs.History.{each_thread}
 use Rattle.upc_values.specs.Expansion.{Expansion, Reads, Gives, nothing, bind, does, gathered, refused_by}
-use Rattle.upc_values.specs.Expansions.{Part, part, parts, copied, cells, cut, outside, some_bytes, move, permute}
-use Rattle.upc_values.specs.Expansions.{permutation, chosen, is_at, operand, operands, paired, are_cells, number_at}
+use Rattle.upc_values.specs.Expansions.{Part, part, parts, copied, cells, cut, some_bytes, move, permute}
+use Rattle.upc_values.specs.Expansions.{chosen, operands, paired, are_cells, number_at}
 use Rattle.upc_values.specs.Expansions.{number_put, outcome, total, totals, reduce, reduce_prefixes, work}
 use Rattle.upc_values.specs.Reductions.{Reduction, reduction, element_kind, step}
 use Rattle.upc_values.specs.Views.{destination, source, byte_at, element, from_phase_0, location_behind, shape_at}

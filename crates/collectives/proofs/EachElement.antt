@@ -6,6 +6,7 @@ use Rattle.block_layout.specs.declared.place.SharedPtr.{SharedPtr}
 use Rattle.block_layout.specs.declared.kind.Kind.{Kind}
 use Rattle.block_layout.specs.declared.kind.Kind.TheVariants as kind
 use Rattle.upc_values.specs.declared.action.Reply.{Reply}
+use Rattle.upc_values.specs.layer.Parts as parts
 use Rattle.upc_values.specs.Expansion.{Expansion, Fails, nothing, bind, gathered, after_reply, value_in}
 use Rattle.upc_values.specs.Expansions as said
 use Rattle.upc_values.specs.Reductions.{Reduction}
@@ -31,11 +32,11 @@ numbers_begin go came xs x none some is =
     ∙ ap (λ (ys : List Spot). numbered go [] (map pointer_of ys)) (sym (drop-at xs 0 x some is))
 
 module _ (go : List ℤ → Expansion (Unit {0})) (came after : List ℤ) (e : SharedPtr) (xs : List Spot) (i : ℕ) (r : Reply)
-    (pushed : after ≡ came ++ said.number_of 0 [] 0 (value_in r) ∷ []) where
+    (pushed : after ≡ came ++ parts.number_of 0 [] 0 (value_in r) ∷ []) where
   one_more : numbered go after (map pointer_of (drop i xs))
       ≡ after_reply (numbered go came (e ∷ map pointer_of (drop i xs))) r
   one_more =
-      let y = said.number_of 0 [] 0 (value_in r) in
+      let y = parts.number_of 0 [] 0 (value_in r) in
       let x = gathered (said.number_at 0 [] 0 kind.Int) (map pointer_of (drop i xs)) in
       ap (λ (cs : List ℤ). bind x (λ vs. go (cs ++ vs))) pushed ∙ sym (number_comes x y came go)
 
@@ -69,13 +70,13 @@ module _ (op : Reduction) (k : Kind) where
       ap (λ (ys : List Spot). said.reduce 0 [] 0 (Some op) k dst (map pointer_of ys)) (sym (drop-at xs 0 x some is))
 
   pub total_reads : (a : Option ℤ) (b : ℤ) (dst p : SharedPtr) (ps : List SharedPtr) (r : Reply)
-      → Ok b ≡ joined op k a (said.number_of 0 [] 0 (value_in r))
+      → Ok b ≡ joined op k a (parts.number_of 0 [] 0 (value_in r))
       → said.total 0 [] 0 op k b dst ps ≡ after_reply (total_from a dst p ps) r
   total_reads a b dst p ps r e =
       ap (λ (s : Result ℤ ℕ). bind (said.outcome 0 [] 0 s) (λ b. said.total 0 [] 0 op k b dst ps)) e
 
   pub total_fails : (a : Option ℤ) (code : ℕ) (dst p : SharedPtr) (ps : List SharedPtr) (r : Reply)
-      → Err code ≡ joined op k a (said.number_of 0 [] 0 (value_in r))
+      → Err code ≡ joined op k a (parts.number_of 0 [] 0 (value_in r))
       → after_reply (total_from a dst p ps) r ≡ Fails code
   total_fails a code dst p ps r e =
       sym (ap (λ (s : Result ℤ ℕ). bind (said.outcome 0 [] 0 s) (λ b. said.total 0 [] 0 op k b dst ps)) e)
@@ -97,13 +98,13 @@ module _ (op : Reduction) (k : Kind) where
   prefix_left a x xs = record { op = op; kind = k; so_far = a; part = x; parts = xs }
 
   pub prefix_reads : (a : Option ℤ) (b : ℤ) (x : said.Part) (xs : List said.Part) (r : Reply)
-      → Ok b ≡ joined op k a (said.number_of 0 [] 0 (value_in r))
+      → Ok b ≡ joined op k a (parts.number_of 0 [] 0 (value_in r))
       → prefixes_put (prefix_left a x xs) b ≡ after_reply (prefixes_rest (prefix_left a x xs)) r
   prefix_reads a b x xs r e =
       ap (λ (s : Result ℤ ℕ). bind (said.outcome 0 [] 0 s) (λ b. prefixes_put (prefix_left a x xs) b)) e
 
   pub prefix_fails : (a : Option ℤ) (code : ℕ) (x : said.Part) (xs : List said.Part) (r : Reply)
-      → Err code ≡ joined op k a (said.number_of 0 [] 0 (value_in r))
+      → Err code ≡ joined op k a (parts.number_of 0 [] 0 (value_in r))
       → after_reply (prefixes_rest (prefix_left a x xs)) r ≡ Fails code
   prefix_fails a code x xs r e =
       sym (ap (λ (s : Result ℤ ℕ). bind (said.outcome 0 [] 0 s) (λ b. prefixes_put (prefix_left a x xs) b)) e)

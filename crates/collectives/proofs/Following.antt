@@ -7,12 +7,13 @@ use Rattle.std.proofs.lemmas.Bool.Decides.{eqb_tells}
 use Rattle.block_layout.specs.declared.kind.Kind.{Kind}
 use Rattle.block_layout.specs.declared.kind.Shape.{Shape}
 use Rattle.upc_values.specs.declared.scalar.Scalar.{Scalar}
+use Rattle.upc_values.specs.layer.Parts.{unless_refused}
 use Rattle.upc_values.specs.declared.action.Action.{Action}
 use Rattle.upc_values.specs.declared.action.Reply.{Reply}
 use Rattle.upc_values.specs.declared.action.Reply.TheVariants as reply
 use Rattle.upc_values.specs.declared.refused.Refused.{Refused}
 use Rattle.upc_values.specs.declared.refused.Refused.TheVariants as refused
-use Rattle.upc_values.specs.Expansion.{Expansion, Gives, Fails, Reads, Asks, Loads, Stores, bind, nothing, barrier, unless_refused}
+use Rattle.upc_values.specs.Expansion.{Expansion, Gives, Fails, Reads, Asks, Loads, Stores, bind, nothing, barrier}
 use Rattle.upc_values.specs.Expansion.{refused_by, after_reply, each_in_turn}
 use Rattle.upc_values.specs.Expansions as said
 use Rattle.upc_values.specs.Expansions.{Part}

@@ -3,6 +3,7 @@ use Rattle.std.proofs.Common.{◌≡◌, ◌≢◌, ◌==◌, unsigned_abs, leng
 use Rattle.std.specs.Prelude.{nat_lt}
 use Rattle.block_layout.specs.declared.place.SharedPtr.{SharedPtr}
 use Rattle.upc_values.specs.declared.scalar.Scalar.{Scalar}
+use Rattle.upc_values.specs.layer.Parts as parts
 use Rattle.upc_values.specs.declared.scalar.Scalar.TheVariants.{Int, Shared, Lock}
 use Rattle.upc_values.specs.Calls as said
 use Rattle.upc_values.specs.Calls.{call_of, way_of, is_size, is_int}
@@ -14,7 +15,7 @@ copied (Some d) (Some s) (Some n) (Some f) (Some w) = said.Copies w d s n f
 copied d s n f w = said.Other
 
 -- numbers out of their ranges make no call
-copied-numbers : (w : Option said.Way) (d s : SharedPtr) (n : ℕ) (f : ℤ) (p q : Bool) → kept (cond (p && q) (said.copies w d s n f) said.Other) ≡ copied (Some d) (Some s) (cond p (Some n) None) (cond q (Some f) None) w
+copied-numbers : (w : Option said.Way) (d s : SharedPtr) (n : ℕ) (f : ℤ) (p q : Bool) → kept (cond (p && q) (parts.copies w d s n f) said.Other) ≡ copied (Some d) (Some s) (cond p (Some n) None) (cond q (Some f) None) w
 copied-numbers (Some w) d s n f true true = refl
 copied-numbers None d s n f true true = refl
 copied-numbers w d s n f true false = refl

@@ -7,6 +7,7 @@ ghost use Rattle.std.specs.List.{All, list_any, position_or_len};
 ghost use Rattle.std.specs.Ordering.{int_eq};
 ghost use Rattle.block_layout.specs.declared.kind.Kind.TheVariants as kind;
 ghost use Rattle.upc_values.specs.Expansions as said;
+ghost use Rattle.upc_values.specs.layer.Parts as parts;
 ghost use Rattle.upc_values.specs.History.{each_thread};
 ghost use Rattle.upc_values.specs.Views as views;
 ghost use Rattle.upc_library.specs.layer.Spots.{pointer_of, IsRoomFor};
@@ -73,7 +74,7 @@ fn permutation(
     perm: &SharedPtr,
 ) -> Result<Vec<Spot>, OutOfMemory>
     ensures elements { IfOk result (λ ps. map pointer_of ps.items
-        ≡ said.permutation thread.now.threads thread.now.shapes.now thread.now.number perm.now) }
+        ≡ parts.permutation thread.now.threads thread.now.shapes.now thread.now.number perm.now) }
     ensures many { IfOk result (λ ps. length ps.items ≡ thread.now.threads) }
 {
     let start = from_phase_0(perm);
@@ -86,14 +87,14 @@ fn permutation(
 
 // Whether the thread's number is among these.
 fn is_at(thread: u32, numbers: &[i128]) -> bool
-    ensures { result ≡ said.is_at 0 [] 0 thread numbers.now }
+    ensures { result ≡ parts.is_at 0 [] 0 thread numbers.now }
 {
     numbers.iter().any(|v| *v == i128::from(thread))
 }
 
 // Whether each thread's number is.
 fn is_permutation(threads: u32, numbers: &[i128]) -> bool
-    ensures { result ≡ each_thread threads (λ t. said.is_at 0 [] 0 t numbers.now) }
+    ensures { result ≡ each_thread threads (λ t. parts.is_at 0 [] 0 t numbers.now) }
 {
     for thread in 0..threads {
         if !is_at(thread, numbers) {

@@ -1,7 +1,9 @@
 //! What replies say.
 
 ghost use Rattle.std.specs.Prelude.{◌≡◌, [], IfOk, IfErr};
-ghost use Rattle.upc_values.specs.Expansion.{unless_refused, value_in, nothing};
+ghost use Rattle.upc_values.specs.Expansion.{value_in, nothing};
+ghost use Rattle.upc_values.specs.layer.Parts.{unless_refused};
+ghost use Rattle.upc_values.specs.layer.Parts as parts;
 ghost use Rattle.upc_values.specs.Expansions as said;
 ghost use Rattle.collectives.specs.layer.Wishes.{RefusesSo};
 
@@ -20,7 +22,7 @@ pub fn value_in(reply: &Reply) -> Scalar
 
 /// The integer that a reply gives, 0 where it gives none.
 pub fn number_in(reply: &Reply) -> Number
-    ensures { result ≡ said.number_of 0 [] 0 (value_in reply.now) }
+    ensures { result ≡ parts.number_of 0 [] 0 (value_in reply.now) }
 {
     match reply {
         Reply::Value(Scalar::Int(value)) => Number::new(*value),

@@ -2,7 +2,8 @@
 
 ghost use Rattle.std.specs.Prelude.{◌≡◌, ℕ, List, IfOk, IfErr};
 ghost use Rattle.block_layout.specs.declared.kind.Shape.{Shape};
-ghost use Rattle.upc_values.specs.Expansion.{Expansion, after_reply, bind, unless_refused};
+ghost use Rattle.upc_values.specs.Expansion.{Expansion, after_reply, bind};
+ghost use Rattle.upc_values.specs.layer.Parts.{unless_refused};
 ghost use Rattle.collectives.specs.layer.Walks.{exit_by, from_entry, from_work, stage_rest, work_left};
 ghost use Rattle.collectives.specs.layer.Wishes.{IsWish, RefusesSo, kind_read};
 

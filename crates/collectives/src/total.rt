@@ -6,6 +6,7 @@ ghost use Rattle.collectives.specs.code.Reductions.{reduction_in};
 ghost use Rattle.std.specs.List.{All};
 ghost use Rattle.block_layout.specs.declared.kind.Shape.{Shape};
 ghost use Rattle.upc_values.specs.Calls as calls;
+ghost use Rattle.upc_values.specs.layer.Parts as parts;
 ghost use Rattle.upc_values.specs.Expansion.{after_reply, value_in};
 ghost use Rattle.upc_values.specs.Expansions as said;
 ghost use Rattle.upc_values.specs.Reductions as reductions;
@@ -145,7 +146,7 @@ impl Total {
     // The value so far with the element that a reply gives.
     fn joined(&self, reply: &Reply) -> Result<Number, u8>
         ensures { result ≡ joined self.now.op self.now.kind self.now.so_far
-            (said.number_of 0 [] 0 (value_in reply.now)) }
+            (parts.number_of 0 [] 0 (value_in reply.now)) }
     {
         join(self.op, self.kind, &self.so_far, number_in(reply))
     }

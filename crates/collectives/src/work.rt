@@ -2,7 +2,8 @@
 
 ghost use Rattle.std.specs.Prelude.{◌≡◌, ℕ, List, map, IfOk, IfErr};
 ghost use Rattle.block_layout.specs.declared.kind.Shape.{Shape};
-ghost use Rattle.upc_values.specs.Expansion.{after_reply, unless_refused};
+ghost use Rattle.upc_values.specs.Expansion.{after_reply};
+ghost use Rattle.upc_values.specs.layer.Parts.{unless_refused};
 ghost use Rattle.upc_values.specs.declared.scalar.Scalar.{Scalar};
 ghost use Rattle.upc_values.specs.Expansions as said;
 ghost use Rattle.collectives.specs.code.Calls.{call_in, way_in, FitsLimits};

@@ -1,11 +1,11 @@
 -- The parameters of functions by their numbers.
 use Rattle.std.proofs.Common.{◌≡◌, ℕ, ◌<◌, ◌≤◌, List, [], length, map, sym, ap, ◌∙◌, option_map, Some}
+use Rattle.source_meaning.specs.layer.Parts.{parameters_in}
 use Rattle.std.specs.Prelude.{slice_get, slice_index_or}
 use Rattle.std.proofs.lemmas.Option.{slice_get-get_or, slice_get-map, slice_get_past}
 use Rattle.upc_types.specs.View.{view}
 use Rattle.typed_tree.specs.declared.tree.Function.{Function}
 use Rattle.typed_tree.specs.ViewStatements.{view_function}
-use Rattle.source_meaning.specs.Running.{parameters_in}
 
 -- Those of a function that is there.
 pub parameters_at : (fs : List Function) (n : ℕ) (f : Function) → n < length fs → f ≡ slice_index_or fs n f

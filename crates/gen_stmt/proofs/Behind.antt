@@ -17,8 +17,9 @@ use Rattle.typed_tree.specs.ViewTree.{view_expr}
 use Rattle.typed_tree.specs.ViewStatements.{view_object, view_statement, view_statement_kind, view_arms, view_item}
 use Rattle.typed_tree.specs.ViewStatements.{view_items, view_switch_item, view_switch_items}
 use Rattle.source_meaning.specs.Types.{integer_of}
+use Rattle.source_meaning.specs.layer.Parts.{with_strict}
 use Rattle.source_meaning.specs.Expressions.{type_of}
-use Rattle.source_meaning.specs.Statements.{Standing, with_strict, with_objects, shapes_of, objects_in}
+use Rattle.source_meaning.specs.Statements.{Standing, with_objects, shapes_of, objects_in}
 use Rattle.source_meaning.specs.Threads.{in_body, main_of, main_place}
 use Rattle.stack_code.specs.declared.instruction.CellAccess.{CellAccess}
 use Rattle.stack_code.specs.declared.instruction.CallWork.TheVariants as call

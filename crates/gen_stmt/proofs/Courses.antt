@@ -25,10 +25,11 @@ use Rattle.thread_steps.specs.Values.{number_of}
 use Rattle.thread_steps.specs.Actions.{tick, notify, wait}
 use Rattle.thread_steps.specs.Blocks.{open_block, close_block, local_object, begin_call, end_call}
 use Rattle.source_meaning.specs.Types.{cell_kind}
+use Rattle.source_meaning.specs.layer.Parts.{given_by, is_main}
 use Rattle.source_meaning.specs.Running.{Running, running}
 use Rattle.source_meaning.specs.Expressions.{Calls, no_value, put, saved}
 use Rattle.source_meaning.specs.Statements.{Flow, Next, Broke, Again, Gave, run, run_items}
-use Rattle.source_meaning.specs.Threads.{blank_of, given_by, is_main, main_of, in_body, shapes_in, opened, body}
+use Rattle.source_meaning.specs.Threads.{blank_of, main_of, in_body, shapes_in, opened, body}
 use Rattle.source_meaning.specs.Threads.{function, called, most_calls, main_place, main_called, course}
 use Rattle.source_meaning.specs.Threads.{initial_state, outcome_of, thread_outcome}
 use Rattle.source_meaning.specs.Threads as source

@@ -30,9 +30,10 @@ use Rattle.typed_tree.specs.LocalObjects.{switch_objects}
 use Rattle.typed_tree.specs.Programs.{Checked, count_in, count_of}
 use Rattle.thread_steps.specs.Values.{number}
 use Rattle.source_meaning.specs.Types.{integer_of, cell_kind}
+use Rattle.source_meaning.specs.layer.Parts.{with_strict}
 use Rattle.source_meaning.specs.Running.{shared_object}
 use Rattle.source_meaning.specs.Expressions.{type_of}
-use Rattle.source_meaning.specs.Statements.{Standing, with_strict, with_objects, element_type}
+use Rattle.source_meaning.specs.Statements.{Standing, with_objects, element_type}
 use Rattle.source_meaning.specs.Threads.{in_body, blank_of}
 use Rattle.stack_code.specs.declared.instruction.StackWork.{StackWork}
 use Rattle.stack_code.specs.declared.instruction.StackWork.TheVariants as stack

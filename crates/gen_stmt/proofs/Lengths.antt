@@ -10,8 +10,9 @@ use Rattle.typed_tree.specs.Tree.{AndObjects, AndStatement, SwitchItems, NoSwitc
 use Rattle.typed_tree.specs.Tree.{AndSwitchStatement}
 use Rattle.typed_tree.specs.Tree as tree
 use Rattle.source_meaning.specs.Types.{integer_of}
+use Rattle.source_meaning.specs.layer.Parts.{with_strict}
 use Rattle.source_meaning.specs.Expressions.{type_of}
-use Rattle.source_meaning.specs.Statements.{Standing, with_strict, with_objects, shapes_of, objects_in}
+use Rattle.source_meaning.specs.Statements.{Standing, with_objects, shapes_of, objects_in}
 use Rattle.stack_code.specs.declared.instruction.StackWork.TheVariants as stack
 use Rattle.stack_code.specs.declared.instruction.Jump.TheVariants as jump
 use Rattle.stack_code.specs.declared.instruction.ThreadWork.TheVariants as thread

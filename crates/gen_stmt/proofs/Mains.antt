@@ -5,8 +5,8 @@ use Rattle.std.proofs.lemmas.List.{drop_all}
 use Rattle.upc_types.proofs.Members.{next}
 use Rattle.typed_tree.specs.declared.tree.Function as f
 use Rattle.typed_tree.specs.ViewStatements.{view_function}
-use Rattle.source_meaning.specs.Threads.{is_main}
 use Rattle.source_meaning.proofs.Mains.{main_found, main_behind, main_nowhere}
+use Rattle.source_meaning.specs.layer.Parts.{is_main}
 use Rattle.gen_stmt.specs.layer.Programs.{counted, main_number}
 
 pub number_found : (xs : List f.Function) (i : ℕ) (x : f.Function) → i < length xs → x ≡ get_or xs i x

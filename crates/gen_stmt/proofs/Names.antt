@@ -21,8 +21,8 @@ use Rattle.upc_values.specs.Openings.{is_named}
 use Rattle.upc_values.specs.Shapes.{blank_value}
 use Rattle.upc_values.proofs.Membership.{each-weaker}
 use Rattle.typed_tree.specs.declared.beginning.SharedDecl.{SharedDecl}
+use Rattle.typed_tree.specs.layer.Parts.{object_of}
 use Rattle.typed_tree.specs.Initials.{numbered}
-use Rattle.typed_tree.specs.Objects.{object_of}
 use Rattle.typed_tree.specs.Beginnings.{Beginning, opening_in}
 use Rattle.typed_tree.specs.layer.PrivateOpenings.{IsPrivateOpening, is_known}
 use Rattle.typed_tree.specs.Programs.{Checked, start_of}

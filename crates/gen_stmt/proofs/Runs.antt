@@ -28,6 +28,7 @@ use Rattle.typed_tree.specs.Tree.{NoSwitchItems, AndCase, AndDefault, AndSwitchS
 use Rattle.typed_tree.specs.Tree as tree
 use Rattle.private_store.specs.Live.{controls}
 use Rattle.thread_steps.specs.declared.cast.CastTo.TheVariants as to
+use Rattle.thread_steps.specs.layer.Parts.{one_less}
 use Rattle.thread_steps.specs.States.{Thread, State, Res, Val, Over, Unfinished, bind, Doing, ◌>>◌, give}
 use Rattle.thread_steps.specs.States.{choose}
 use Rattle.thread_steps.specs.Values.{number, number_of, is_zero}
@@ -35,11 +36,11 @@ use Rattle.thread_steps.specs.Actions.{tick, notify, wait, fence, is_controlled}
 use Rattle.thread_steps.specs.Accesses.{save}
 use Rattle.thread_steps.specs.Operators.{cast}
 use Rattle.thread_steps.specs.Blocks.{open_block, close_block, local_object, control, release, mine, with_live}
-use Rattle.thread_steps.specs.Blocks.{one_less}
 use Rattle.source_meaning.specs.Types.{integer_of, conversion, is_strict, cell_kind}
+use Rattle.source_meaning.specs.layer.Parts.{with_strict}
 use Rattle.source_meaning.specs.Running.{Running, shared_object}
 use Rattle.source_meaning.specs.Expressions.{Calls, no_value, type_of, value, object, behind, converted_to, put, saved}
-use Rattle.source_meaning.specs.Statements.{Flow, Next, Broke, Again, Gave, Does, Standing, with_strict, with_objects}
+use Rattle.source_meaning.specs.Statements.{Flow, Next, Broke, Again, Gave, Does, Standing, with_objects}
 use Rattle.source_meaning.specs.Statements.{go_on, turn_on, caught, finished, objects_in, element_type, shapes_of}
 use Rattle.source_meaning.specs.Statements.{blocked, around, turns, controlling, synchronised, aside, tested}
 use Rattle.source_meaning.specs.Statements.{guarded, listed, initialised, declared, run, run_kind, run_last, run_arms}

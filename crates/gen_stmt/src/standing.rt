@@ -3,6 +3,7 @@
 ghost use Rattle.std.specs.Prelude.{◌≡◌, IfOk, map};
 ghost use Rattle.typed_tree.specs.ViewStatements.{view_object};
 ghost use Rattle.source_meaning.specs.Statements as pure;
+ghost use Rattle.source_meaning.specs.layer.Parts as parts;
 ghost use Rattle.gen_stmt.specs.code.Views.{view_standing, with_count};
 
 use crate::exits::sum;
@@ -21,7 +22,7 @@ pub(crate) struct Standing<'p> {
 
 /// In a block whose accesses are strict or not.
 pub(crate) fn with_strict(strict: bool, standing: Standing<'_>) -> Standing<'_>
-    ensures { view_standing result ≡ pure.with_strict strict (view_standing standing.entry) }
+    ensures { view_standing result ≡ parts.with_strict strict (view_standing standing.entry) }
 {
     Standing {
         strict,

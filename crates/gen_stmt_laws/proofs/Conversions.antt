@@ -19,6 +19,7 @@ use Rattle.typing_rules.specs.declared.library.LibraryParameter.TheVariants as p
 use Rattle.thread_steps.specs.declared.cast.CastTo.{CastTo}
 use Rattle.thread_steps.specs.declared.cast.CastTo.TheVariants as to
 use Rattle.source_meaning.specs.Types as type
+use Rattle.source_meaning.specs.layer.Parts as parts
 use Rattle.stack_code.specs.declared.instruction.ValueWork.TheVariants as make
 use Rattle.stack_code.specs.layer.Kept.{CastFits, ValuesFit}
 use Rattle.meaning_laws.specs.layer.Values.{HasIntegerKind, IsFormedType}
@@ -135,7 +136,7 @@ pub parameters_fit : (xs : List LibraryParameter) → Each CastFits (map type.pa
 parameters_fit [] = tt
 parameters_fit (x ∷ xs) = (parameter_fits x, parameters_fit xs)
 
-promotion_fits : (o : Option Kind) → IsIntegerOf o → CastFits (type.promotion_of o)
+promotion_fits : (o : Option Kind) → IsIntegerOf o → CastFits (parts.promotion_of o)
 promotion_fits None h = tt
 promotion_fits (Some k) h = promoted_integer k h
 

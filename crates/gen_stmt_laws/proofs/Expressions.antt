@@ -30,7 +30,8 @@ use Rattle.thread_steps.specs.declared.cast.CastTo.{CastTo}
 use Rattle.thread_steps.specs.declared.cast.CastTo.TheVariants as to
 use Rattle.thread_steps.specs.Values.{truth_value}
 use Rattle.source_meaning.specs.Types as type
-use Rattle.source_meaning.specs.Running.{parameters_of, parameters_in}
+use Rattle.source_meaning.specs.layer.Parts.{parameters_in}
+use Rattle.source_meaning.specs.Running.{parameters_of}
 use Rattle.source_meaning.specs.Expressions as mean
 use Rattle.source_meaning.specs.Expressions.{type_of, types_of}
 use Rattle.stack_code.specs.declared.instruction.Instr.{Instr}

@@ -22,6 +22,7 @@ use Rattle.typing_rules.specs.Values.{base_is_array, is_no_object}
 use Rattle.typed_tree.specs.Tree.{DeclaredObject}
 use Rattle.typed_tree.specs.layer.Judged.{Earlier, AtEnd, Before}
 use Rattle.source_meaning.specs.Types as type
+use Rattle.source_meaning.specs.layer.Parts as parts
 use Rattle.meaning_laws.proofs.Rules.{holds}
 use Rattle.gen_stmt_laws.specs.code.Fitting.{AreFine}
 
@@ -109,7 +110,7 @@ abbrev AreBytes : ℕ → Type 0
 AreBytes n = (0 < n) × (n ≤ 16777216)
 
 bytes_by : (σ : Structs) (b : Bool) (l : Layout) → (b ≡ true → AreBytes l.size)
-    → AreBytes (type.bytes_or_one σ (if b then Some l else None))
+    → AreBytes (parts.bytes_or_one σ (if b then Some l else None))
 bytes_by σ true l h = h refl
 bytes_by σ false l h = (omega arith, omega arith)
 

@@ -38,8 +38,9 @@ use Rattle.typed_tree.specs.layer.TypedNodes.{MeetsObjects, MeetsHead}
 use Rattle.typed_tree.specs.layer.TypedNodes.{MeetsAffinity, MeetsStatement, MeetsBy, MeetsLast, MeetsArms, MeetsItems}
 use Rattle.typed_tree.specs.layer.TypedNodes.{MeetsSwitch, MeetsFunction, behind, behind_all, around}
 use Rattle.source_meaning.specs.Types as type
+use Rattle.source_meaning.specs.layer.Parts.{with_strict}
 use Rattle.source_meaning.specs.Expressions.{type_of}
-use Rattle.source_meaning.specs.Statements.{Standing, with_strict, with_objects, element_type, shapes_of}
+use Rattle.source_meaning.specs.Statements.{Standing, with_objects, element_type, shapes_of}
 use Rattle.source_meaning.specs.Statements as meaning
 use Rattle.source_meaning.specs.Threads.{in_body}
 use Rattle.stack_code.specs.declared.instruction.Instr.{Instr}

@@ -6,8 +6,10 @@ use Rattle.block_layout.specs.declared.kind.Shape.{Shape}
 use Rattle.upc_values.specs.Lists.{Each}
 use Rattle.upc_types.specs.Types.{base_of}
 use Rattle.typed_tree.specs.Allocated.{allocated_in}
-use Rattle.typed_tree.specs.Elements.{element_shape, number_among, with_shape, with_shapes}
-use Rattle.typed_tree.specs.Objects.{is_shared, shared_in, type_of}
+use Rattle.typed_tree.specs.layer.Parts.{with_shapes}
+use Rattle.typed_tree.specs.Objects.{is_shared}
+use Rattle.typed_tree.specs.Elements.{element_shape, number_among, with_shape}
+use Rattle.typed_tree.specs.Objects.{shared_in, type_of}
 use Rattle.typed_tree.specs.Programs.{Checked, start_of, count_of, most_declared}
 use Rattle.typed_tree.specs.Tree.{DeclaredObject}
 use Rattle.source_meaning.proofs.Beginnings.{privates_begin}

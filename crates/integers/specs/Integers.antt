@@ -17,37 +17,23 @@ width Int = 32
 width UInt = 32
 width Long = 64
 width ULong = 64
-width (Shared n b) = 0
-width Lock = 0
-width (Private n) = 0
+width kind = 0
 
 -- Whether a kind has negative values, as char has (C99 6.2.5).
 abbrev pub is_signed : Kind → Bool
 is_signed Char = true
-is_signed UChar = false
 is_signed Short = true
-is_signed UShort = false
 is_signed Int = true
-is_signed UInt = false
 is_signed Long = true
-is_signed ULong = false
-is_signed (Shared n b) = false
-is_signed Lock = false
-is_signed (Private n) = false
+is_signed kind = false
 
 -- The least value of an integer kind (C99 6.2.5).
 abbrev pub least : Kind → ℤ
 least Char = neg_ℤ (pos (2 ^ 7))
-least UChar = pos 0
 least Short = neg_ℤ (pos (2 ^ 15))
-least UShort = pos 0
 least Int = neg_ℤ (pos (2 ^ 31))
-least UInt = pos 0
 least Long = neg_ℤ (pos (2 ^ 63))
-least ULong = pos 0
-least (Shared n b) = pos 0
-least Lock = pos 0
-least (Private n) = pos 0
+least kind = pos 0
 
 -- How many values an integer kind has (C99 6.2.6.2).
 abbrev pub values : Kind → ℕ

@@ -19,7 +19,7 @@ use Rattle.typed_tree.specs.Programs.{Checked}
 use Rattle.thread_steps.specs.States.{Res, Val, Over, Unfinished, Doing}
 use Rattle.thread_steps.specs.Library.{has_shape}
 use Rattle.source_meaning.specs.Running.{running}
-use Rattle.source_meaning.specs.Expressions.{shape_number}
+use Rattle.source_meaning.specs.layer.Parts.{shape_number}
 use Rattle.source_meaning.specs.Laws.{AreSoMany, GivesIn, Gives}
 use Rattle.private_store.specs.declared.frame.Call.{Call}
 use Rattle.meaning_laws.specs.layer.Values.{IsOf, Comes, Brings}

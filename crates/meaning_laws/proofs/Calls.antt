@@ -11,7 +11,7 @@ use Rattle.private_store.specs.declared.frame.Call.{Call}
 use Rattle.private_store.specs.Live.{Live, youngest, older, open_blocks, left_from, left, called, returned_from}
 use Rattle.private_store.specs.Live.{returned, recounted_from, controls_in, controls}
 use Rattle.private_store.specs.Cells.{Cell, stored, reached, put_in}
-use Rattle.thread_steps.specs.Blocks.{one_more, one_less}
+use Rattle.thread_steps.specs.layer.Parts.{one_more, one_less}
 
 -- These calls are active, if there is no run error.
 abbrev pub HasCalls : List Call → Result Live ℕ → Type 0

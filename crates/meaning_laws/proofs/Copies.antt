@@ -32,10 +32,11 @@ use Rattle.upc_values.specs.Calls.{Call, Allocates, Makes_lock, Frees, Frees_loc
 use Rattle.upc_values.specs.Calls.{Reduces_prefixes, Other, call_of}
 use Rattle.upc_values.specs.Reductions.{Reduction, reduction, step, element_kind}
 use Rattle.upc_values.specs.Expansion.{Expansion, Gives, Fails, Reads, Asks, Loads, Stores, bind, nothing}
-use Rattle.upc_values.specs.Expansion.{unless_refused, does, barrier, each_in_turn, gathered, refused_by}
+use Rattle.upc_values.specs.layer.Parts as named
+use Rattle.upc_values.specs.Expansion.{does, barrier, each_in_turn, gathered, refused_by}
 use Rattle.upc_values.specs.Copying as m
 use Rattle.upc_values.specs.Copying.{Area, Nowhere, In_shared, In_private}
-use Rattle.upc_values.specs.Views.{location_behind, leaves_range, is_cell, byte_at, placed_kind, shape_at}
+use Rattle.upc_values.specs.Views.{location_behind, leaves_range, is_cell, byte_at, shape_at}
 use Rattle.upc_values.specs.History.{each_thread}
 use Rattle.upc_values.specs.Shapes.{is_integer, fits_kind, kind_at}
 use Rattle.upc_values.specs.Scalars as sc
@@ -80,7 +81,7 @@ then_takes : {A B : Type 0} (e : Expansion A) (f : A → Expansion B) → Takes 
     → Takes B (bind e f)
 then_takes e f h g = record { by = bind_takes e f h.by (λ v. (g v).by) }
 
-unless_takes : (r : Reply) → TakesCells (unless_refused r)
+unless_takes : (r : Reply) → TakesCells (named.unless_refused r)
 unless_takes reply.Done = tt
 unless_takes (reply.Value v) = tt
 unless_takes (reply.Flag v) = tt
@@ -138,20 +139,20 @@ module _ (shapes : List Shape) (sharable : Each IsSharable shapes) where
   at_open (s ∷ xs) (suc i) n k h e = at_open xs i n k h.1 e
 
   placed_open : (i : ℕ) (o : Option Kind) (rest : List (ℕ × Kind)) → ((k : Kind) → o ≡ Some k → is_private k ≡ false)
-      → Each IsOpen rest → Each IsOpen (cons_option (placed_kind i o) rest)
+      → Each IsOpen rest → Each IsOpen (cons_option (named.placed_kind i o) rest)
   placed_open i (Some k) rest h g = (h k refl, g)
   placed_open i None rest h g = g
 
   -- The cells in some bytes of a shared object.
   cells_open : (p : SharedPtr) (first : ℕ) (places : List ℕ)
-      → Each IsOpen (filter_map (λ i. placed_kind i (kind_at (shape_at shapes p) (first + i))) places)
+      → Each IsOpen (filter_map (λ i. named.placed_kind i (kind_at (shape_at shapes p) (first + i))) places)
   cells_open p first [] = tt
   cells_open p first (i ∷ places) =
       placed_open i (kind_at (shape_at shapes p) (first + i)) _
       (λ k e. at_open shapes p.object.shape (first + i) k sharable e) (cells_open p first places)
 
   none_open : (first : ℕ) (places : List ℕ)
-      → Each IsOpen (filter_map (λ i. placed_kind i (kind_at None (first + i))) places)
+      → Each IsOpen (filter_map (λ i. named.placed_kind i (kind_at None (first + i))) places)
   none_open first [] = tt
   none_open first (i ∷ places) = none_open first places
 
@@ -250,7 +251,7 @@ module _ (shapes : List Shape) (sharable : Each IsSharable shapes) where
         ∷ [])
         (each_in_turn f cells) (each_takes f cells (λ v. shared_written_takes dst v (m.filled k v.1) h)))
 
-  shared_area_is : (p : SharedPtr) → IsSharedArea (m.shared_area p)
+  shared_area_is : (p : SharedPtr) → IsSharedArea (named.shared_area p)
   shared_area_is p = by (is_null p)
     where
       by : (b : Bool) → IsSharedArea (cond b Nowhere (In_shared p))
@@ -280,7 +281,7 @@ module _ (threads : ℕ) (shapes : List Shape) (me : ℕ) where
       refused_by_takes
       ((list_any (λ part. leaves_range n part.into || leaves_range n part.from) parts, POINTER_RANGE)
       ∷ (
-        list_any (λ part. x.outside threads shapes me n part.into || x.outside threads shapes me n part.from)
+        list_any (λ part. named.outside threads shapes me n part.into || named.outside threads shapes me n part.from)
             parts,
         OUT_OF_OBJECT,
       )
@@ -298,7 +299,7 @@ module _ (threads : ℕ) (shapes : List Shape) (me : ℕ) where
   cells_takes k ps e h =
       refused_by_takes
       ((list_any (leaves_range (kind_size k)) ps, POINTER_RANGE)
-      ∷ (list_any (x.outside threads shapes me (kind_size k)) ps, OUT_OF_OBJECT)
+      ∷ (list_any (named.outside threads shapes me (kind_size k)) ps, OUT_OF_OBJECT)
       ∷ (list_any (λ p. not (is_cell shapes k p)) ps, CELL_TYPE)
       ∷ [])
       e h
@@ -313,21 +314,21 @@ module _ (threads : ℕ) (shapes : List Shape) (me : ℕ) where
       → Takes (Unit {0}) (x.permute threads shapes me dst src perm n)
   permute_takes dst src perm n =
       let read = x.number_at threads shapes me kind.Int in
-      let ps = x.permutation threads shapes me perm in
+      let ps = named.permutation threads shapes me perm in
       let own = byte_at dst n threads (me * n) in
       let some = not (n == 0) in
       let go : List ℤ → Expansion (Unit {0}) = λ vs. x.some_bytes threads shapes me n
       (x.move threads shapes me n (x.chosen threads shapes me dst src n vs ∷ [])) in
       let chosen : List ℤ → Expansion (Unit {0}) = λ vs. refused_by
-      ((not (each_thread threads (λ t. x.is_at threads shapes me t vs)), LIBRARY_ARGS) ∷ []) (go vs) in
+      ((not (each_thread threads (λ t. named.is_at threads shapes me t vs)), LIBRARY_ARGS) ∷ []) (go vs) in
       refused_by_takes
       ((list_any (leaves_range 4) ps || (some && leaves_range n own), POINTER_RANGE)
-      ∷ (list_any (x.outside threads shapes me 4) ps || (some && x.outside threads shapes me n own), OUT_OF_OBJECT)
+      ∷ (list_any (named.outside threads shapes me 4) ps || (some && named.outside threads shapes me n own), OUT_OF_OBJECT)
       ∷ (list_any (λ p. not (is_cell shapes kind.Int p)) ps || (some && x.cut threads shapes me n own), CELL_TYPE)
       ∷ [])
       (bind (gathered read ps) chosen)
       (then_takes (gathered read ps) chosen (gathered_takes read ps (number_takes kind.Int)) (λ vs.
-      refused_by_takes ((not (each_thread threads (λ t. x.is_at threads shapes me t vs)), LIBRARY_ARGS) ∷ [])
+      refused_by_takes ((not (each_thread threads (λ t. named.is_at threads shapes me t vs)), LIBRARY_ARGS) ∷ [])
       (go vs) (permuted_takes dst src n vs)))
 
   outcome_takes : (r : Result ℤ ℕ) → Takes ℤ (x.outcome threads shapes me r)

@@ -48,6 +48,7 @@ use Rattle.typed_tree.specs.layer.Judged.{IsConstant, facts_at}
 use Rattle.typed_tree.specs.layer.TypedNodes.{MeetsExpr, MeetsKind, MeetsExprs}
 use Rattle.private_store.specs.Live.{local_number}
 use Rattle.thread_steps.specs.declared.cast.CastTo.{CastTo}
+use Rattle.thread_steps.specs.layer.Parts as parts
 use Rattle.thread_steps.specs.declared.cast.CastTo.TheVariants as to
 use Rattle.thread_steps.specs.States.{Doing, give}
 use Rattle.thread_steps.specs.Values.{number, number_of, truth_value, is_zero}
@@ -56,8 +57,9 @@ use Rattle.thread_steps.specs.Blocks as b
 use Rattle.thread_steps.specs.Operators as o
 use Rattle.thread_steps.specs.Library as l
 use Rattle.source_meaning.specs.Types as t
+use Rattle.source_meaning.specs.layer.Parts.{parameters_in}
 use Rattle.source_meaning.specs.Types.{conversion, cell_kind, target_of}
-use Rattle.source_meaning.specs.Running.{Running, running, start_in, shared_object, parameters_of, parameters_in}
+use Rattle.source_meaning.specs.Running.{Running, running, start_in, shared_object, parameters_of}
 use Rattle.source_meaning.specs.Expressions as e
 use Rattle.source_meaning.specs.Expressions.{Calls, type_of}
 use Rattle.source_meaning.specs.Laws.{AreSoMany}
@@ -90,7 +92,7 @@ shared_fits n b None = refl
 local_fits_at : (n i : ℕ) → Fits (kind_by None n) (Local (local.Private i (pos 0)))
 local_fits_at n i = refl
 
-local_fits : (n : ℕ) (o : Option ℕ) → Fits (kind_by None n) (b.pointer_to o)
+local_fits : (n : ℕ) (o : Option ℕ) → Fits (kind_by None n) (parts.pointer_to o)
 local_fits n (Some number) = refl
 local_fits n None = refl
 
@@ -198,7 +200,7 @@ module _ (program : Checked) (thread budget : ℕ) where
   object_brings a (home.Local i) f h =
       record {
         by = λ σ filled. (
-          at_kind ρ.structs a.ctype (b.pointer_to (local_number i σ.store)) f None (by (block_of a.ctype) h)
+          at_kind ρ.structs a.ctype (parts.pointer_to (local_number i σ.store)) f None (by (block_of a.ctype) h)
               (local_fits (kind_number a) (local_number i σ.store)),
           filled,
           refl,

@@ -15,6 +15,7 @@ use Rattle.private_store.specs.Live.{Live, entered, left, called, returned, cont
 use Rattle.thread_steps.specs.States.{Res, Val, Over, Unfinished, bind, Doing, ◌>>=◌, give}
 use Rattle.private_store.specs.declared.frame.Call.{Call}
 use Rattle.thread_steps.specs.States.{Thread, State, ◌>>◌, skip, know, change, choose, over, fault}
+use Rattle.thread_steps.specs.layer.Parts as parts
 use Rattle.thread_steps.specs.States.{fault_if, valued}
 use Rattle.thread_steps.specs.Actions as a
 use Rattle.thread_steps.specs.Blocks as b
@@ -50,8 +51,8 @@ pub open_brings : (from : ℕ) (shapes : List Shape) (at : Place)
     → Brings (Unit {0}) Any (b.open_block from shapes at)
 unfolding b.open_block
 open_brings from shapes at =
-    first_brings Any Any (fault_if (b.is_too_large shapes) PRIVATE_SPACE at) _
-    (fault_if_brings (b.is_too_large shapes) PRIVATE_SPACE at) (λ u v.
+    first_brings Any Any (fault_if (parts.is_too_large shapes) PRIVATE_SPACE at) _
+    (fault_if_brings (parts.is_too_large shapes) PRIVATE_SPACE at) (λ u v.
     live_brings (entered from shapes) (λ s i. entered_filled from shapes s i) (λ s. refl))
 
 pub close_brings : Brings (Unit {0}) Any b.close_block
@@ -76,8 +77,8 @@ pub call_brings : {A : Type 0} (V : A → Type 0) (at : Place) (m : Doing A) →
     → Brings A V (b.begin_call at >> (m >>= (λ v. b.end_call >> give v)))
 unfolding b.begin_call b.end_call
 call_brings V at m h =
-    tested_brings V (fault_if b.is_deep DEPTH at) called (m >>= (λ v. change (b.with_live returned) >> give v))
-    (fault_if_brings b.is_deep DEPTH at)
+    tested_brings V (fault_if parts.is_deep DEPTH at) called (m >>= (λ v. change (b.with_live returned) >> give v))
+    (fault_if_brings parts.is_deep DEPTH at)
     (between_brings V V called returned m (λ w. w) (λ s i. i) (λ s i. returned_filled s i) call_back h (λ w g. g))
 
 -- What is done in a controlling body.
@@ -85,7 +86,7 @@ pub controlled_brings : {A B : Type 0} (V : A → Type 0) (W : B → Type 0) (m 
     → ((v : A) → V v → W (f v)) → Brings B W (b.control >> (m >>= (λ v. b.release >> give (f v))))
 unfolding b.control b.release
 controlled_brings V W m f h g =
-    between_brings V W b.one_more b.one_less m f (λ s i. recounted_filled (suc (controls s)) s i)
+    between_brings V W parts.one_more parts.one_less m f (λ s i. recounted_filled (suc (controls s)) s i)
     (λ s i. recounted_filled (pred (controls s)) s i) control_back h g
 
 pub any_local : (n : ℕ) → Brings Value Any (b.local_object n)
@@ -95,7 +96,7 @@ any_local n = know_brings _
 -- ---- actions
 
 module _ (τ : Thread) where
-  unless_brings : (at : Place) (r : Reply) → Brings (Unit {0}) Any (a.unless_refused at r)
+  unless_brings : (at : Place) (r : Reply) → Brings (Unit {0}) Any (parts.unless_refused at r)
   unless_brings at reply.Done = skip_brings
   unless_brings at (reply.Value v) = skip_brings
   unless_brings at (reply.Flag v) = skip_brings
@@ -113,8 +114,8 @@ module _ (τ : Thread) where
   pub tick_brings : Brings (Unit {0}) Any (a.tick τ)
   unfolding a.tick
   tick_brings =
-      first_brings Any Any (change a.with_tick) _ (change_brings a.with_tick (λ σ i. i) (λ σ. refl)) (λ u v.
-      first_brings Any Any (know a.ticks_of) _ (know_brings a.ticks_of) (λ n w.
+      first_brings Any Any (change parts.with_tick) _ (change_brings parts.with_tick (λ σ i. i) (λ σ. refl)) (λ u v.
+      first_brings Any Any (know parts.ticks_of) _ (know_brings parts.ticks_of) (λ n w.
       first_brings Any Any (choose (n % 1024 == 0) (a.ask τ None act.Beat >> skip) skip) _
       (choose_brings Any (n % 1024 == 0) (a.ask τ None act.Beat >> skip) skip (asked_brings act.Beat) skip_brings)
       (λ x y.
@@ -136,8 +137,8 @@ module _ (τ : Thread) where
   wait_brings at mark =
       first_brings Any Any (fault_if a.is_controlled BARRIER_IN_FORALL at) _
       (fault_if_brings a.is_controlled BARRIER_IN_FORALL at) (λ u v.
-      first_brings Any Any (fault_if a.is_not_notified PHASE_ORDER at) _
-      (fault_if_brings a.is_not_notified PHASE_ORDER at) (λ w x.
+      first_brings Any Any (fault_if parts.is_not_notified PHASE_ORDER at) _
+      (fault_if_brings parts.is_not_notified PHASE_ORDER at) (λ w x.
       first_brings Any Any (a.does τ at (act.Wait mark)) _ (does_brings at (act.Wait mark)) (λ y z.
       change_brings (a.with_notified false) (λ σ i. i) (λ σ. refl))))
 

@@ -27,7 +27,8 @@ use Rattle.typing_rules.specs.Nodes.{Attr, Use}
 use Rattle.typing_rules.specs.Rules.{table, judge, has_size, is_loose, is_loose_target, target, rule_15, rule_16}
 use Rattle.typing_rules.specs.Rules.{rule_18, points, moves, moves_loosely, mismatches, are_locks, targets_differ}
 use Rattle.typed_tree.specs.Tree.{attr_of, DeclaredObject}
-use Rattle.typed_tree.specs.Objects.{shared_in, type_of, object_of, placed_from}
+use Rattle.typed_tree.specs.Objects.{shared_in, type_of, placed_from}
+use Rattle.typed_tree.specs.layer.Parts.{object_of}
 use Rattle.typed_tree.specs.Initials.{numbered}
 use Rattle.typed_tree.specs.Programs.{Checked, start_of}
 use Rattle.typed_tree.specs.layer.Judged.{Earlier, AtEnd, Before, facts_at}

@@ -25,6 +25,7 @@ use Rattle.upc_values.specs.Expansion.{value_in}
 use Rattle.private_store.specs.Live.{Live}
 use Rattle.private_store.specs.Cells.{loaded, stored}
 use Rattle.thread_steps.specs.States.{Thread, State, valued}
+use Rattle.thread_steps.specs.layer.Parts as parts
 use Rattle.thread_steps.specs.Values.{kept, kept_scalar, scalar_of}
 use Rattle.thread_steps.specs.Actions as a
 use Rattle.thread_steps.specs.Accesses as x
@@ -32,7 +33,7 @@ use Rattle.thread_steps.specs.declared.elements.Elements.{Elements}
 use Rattle.thread_steps.specs.Pointers.{phased, shared_value, local_value, local_moved, advanced, advance}
 use Rattle.thread_steps.specs.Pointers.{member_behind, member}
 use Rattle.shared_pointers.specs.Steps.{moved, element_in_row}
-use Rattle.shared_pointers.specs.Casts.{member_pointer}
+use Rattle.shared_pointers.specs.layer.Parts.{member_pointer}
 use Rattle.block_layout.specs.Pointers.{is_null}
 use Rattle.block_layout.specs.Places.{in_range}
 use Rattle.block_layout.specs.declared.run_error.TheConstants.{NULL_ACCESS, POINTER_RANGE}
@@ -107,7 +108,7 @@ load_brings τ kind strict at (value.Local local.Null) = load_private_brings τ 
 
 module _ (τ : Thread) (kind : Kind) where
   saved_result : (at : Place) (r : Result Live ℕ) (σ : State) → FilledIn r → HasCalls σ.store.calls r
-      → Comes Any σ.store.calls (x.with_store at σ r)
+      → Comes Any σ.store.calls (parts.with_store at σ r)
   saved_result at (Ok s) σ h k = (tt, h, k)
   saved_result at (Err code) σ h k = tt
 

@@ -23,7 +23,8 @@ use Rattle.typed_tree.specs.layer.Judged.{facts_at}
 use Rattle.thread_steps.specs.States.{Thread, Res, Val, Over, Unfinished, bind, Doing, ◌>>=◌}
 use Rattle.thread_steps.specs.Values.{number}
 use Rattle.thread_steps.specs.Operators.{cast}
-use Rattle.source_meaning.specs.Types.{integer_of, promotion, promotion_of}
+use Rattle.source_meaning.specs.Types.{integer_of, promotion}
+use Rattle.source_meaning.specs.layer.Parts as parts
 use Rattle.source_meaning.specs.Running.{Running}
 use Rattle.source_meaning.specs.Expressions as e
 use Rattle.source_meaning.specs.Expressions.{Calls, type_of, types_of, arguments}
@@ -85,7 +86,7 @@ module _ {B : Type 0} (V : B → Type 0) where
       in_result Unfinished = tt
 
   behind_promotion : (τ : Thread) (o : Option Kind) (at : Place) (v : Value) (f : Value → Doing B)
-      → ((w : Value) → IsNumber w → Gives B V (f w)) → Gives B V (cast τ (promotion_of o) at v >>= f)
+      → ((w : Value) → IsNumber w → Gives B V (f w)) → Gives B V (cast τ (parts.promotion_of o) at v >>= f)
   unfolding cast
   behind_promotion τ (Some k) at v f h = record { by = λ σ. (h (number _) tt).by σ }
   behind_promotion τ None at v f h = record { by = λ σ. (h (number (pos 0)) tt).by σ }

@@ -1,5 +1,6 @@
 -- A cell of a shared object keeps a scalar, since no such cell is of pointers to private objects.
 use Rattle.std.proofs.Common.{◌≡◌, ◌⊎◌, ℕ, zero, suc, ◌==◌, nat_lt, Bool, true, false, not, ◌&&◌, List, [], ◌∷◌, ◌++◌}
+use Rattle.thread_steps.specs.layer.Parts.{shape_or_byte}
 use Rattle.std.proofs.Common.{length, map, slice_get, refl, sym, subst, inl, inr}
 use Rattle.std.specs.Prelude.{if◌then◌else◌, Ok, Err}
 use Rattle.std.proofs.lemmas.Bool.{false≢true, and_parts, or_cases}
@@ -12,7 +13,8 @@ use Rattle.block_layout.specs.Shapes.{has_cell, kind_size, same_kind}
 use Rattle.block_layout.specs.Cells.{is_private}
 use Rattle.block_layout.specs.Pointers.{is_null, location}
 use Rattle.block_layout.proofs.Found.{kind_is}
-use Rattle.shared_pointers.specs.Access.{in_piece, byte_of_element}
+use Rattle.shared_pointers.specs.Access.{in_piece}
+use Rattle.shared_pointers.specs.layer.Parts.{byte_of_element}
 use Rattle.upc_values.specs.declared.scalar.Scalar.{Scalar}
 use Rattle.upc_values.specs.declared.scalar.Value.{Value}
 use Rattle.upc_values.specs.declared.scalar.Value.TheVariants as value
@@ -22,11 +24,11 @@ use Rattle.upc_values.specs.Lists.{Each}
 use Rattle.upc_values.proofs.Membership.{each-from, each-append, filter-has}
 use Rattle.upc_types.specs.Types.{CType, Structs, base_of}
 use Rattle.upc_types.specs.Cells.{leaf_shape}
-use Rattle.typed_tree.specs.Elements.{element_shape, number_among, with_shape, with_shapes}
+use Rattle.typed_tree.specs.Elements.{element_shape, number_among, with_shape}
+use Rattle.typed_tree.specs.layer.Parts.{with_shapes}
 use Rattle.typed_tree.specs.Objects.{shared_in, type_of}
 use Rattle.typed_tree.specs.Allocated.{allocated_in}
 use Rattle.typed_tree.specs.Programs.{Checked, start_of}
-use Rattle.thread_steps.specs.Accesses.{shape_or_byte}
 use Rattle.meaning_laws.specs.code.Laws.{ScalarsAreKept}
 
 -- No cell of the shape is of pointers to private objects.

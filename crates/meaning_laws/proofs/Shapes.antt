@@ -11,7 +11,8 @@ use Rattle.upc_values.proofs.Membership.{has-left, has-right, each-from}
 use Rattle.upc_types.specs.Types.{CType, Structs}
 use Rattle.upc_types.specs.Layout.{size}
 use Rattle.upc_types.proofs.Numbers.{kind_itself}
-use Rattle.typed_tree.specs.Elements.{element_shape, same_shape, number_among, with_shape, with_shapes}
+use Rattle.typed_tree.specs.Elements.{element_shape, number_among, with_shape}
+use Rattle.typed_tree.specs.layer.Parts.{same_shape, with_shapes}
 use Rattle.typed_tree.specs.Objects.{shared_in, type_of, placed_from}
 use Rattle.typed_tree.specs.Tree.{DeclaredObject}
 use Rattle.typed_tree.specs.Allocated.{allocated_in}

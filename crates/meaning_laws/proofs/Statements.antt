@@ -45,6 +45,7 @@ use Rattle.thread_steps.specs.Actions as a
 use Rattle.thread_steps.specs.Blocks as b
 use Rattle.thread_steps.proofs.Blanks.{blank_fits}
 use Rattle.source_meaning.specs.Types as t
+use Rattle.source_meaning.specs.layer.Parts as parts
 use Rattle.source_meaning.specs.Types.{cell_kind}
 use Rattle.source_meaning.specs.Running.{Running, running}
 use Rattle.source_meaning.specs.Expressions as e
@@ -113,7 +114,7 @@ module _ (kind : Option Kind) where
   finished_flows (Gave v) g = g
 
   -- What a function gives fits a cell of its result.
-  given_fits : (f : Flow) → Flows f → FitsCell kind (h.given_by (h.blank_of kind) f)
+  given_fits : (f : Flow) → Flows f → FitsCell kind (parts.given_by (h.blank_of kind) f)
   given_fits (Gave v) g = g
   given_fits Next g = blank kind
     where
@@ -304,7 +305,7 @@ module _ (program : Checked) (thread budget : ℕ) where
             → Brings Flow Left (s.run_kind ρ call κ at kind)
         kind_brings c locals κ at (Block strict items) q r m f =
             blocked_brings kind_of_result ρ κ.count (s.objects_in items) at _
-            (items_bring c locals (s.with_strict strict κ) items q r m f)
+            (items_bring c locals (parts.with_strict strict κ) items q r m f)
         kind_brings c locals κ at (tree.Value v) q r m f = aside_brings kind_of_result locals κ v m f
         kind_brings c locals κ at (If arms last) q r m f =
             arms_bring c locals κ arms (s.run_last ρ call κ last) q r m.1 f.0
@@ -511,8 +512,8 @@ module _ (program : Checked) (thread budget : ℕ) where
         let call = h.called ρ (h.most_calls ρ) in
         call_brings V (h.main_place ρ (Some f)) (h.function ρ call (Some f) [])
         (function_brings call (called_fit (h.most_calls ρ)) f
-        (each_found (MeetsFunction program) h.is_main program.functions f meets.functions q)
-        (each_found (IsFormedFunction Makes) h.is_main program.functions f are q) [])
+        (each_found (MeetsFunction program) parts.is_main program.functions f meets.functions q)
+        (each_found (IsFormedFunction Makes) parts.is_main program.functions f are q) [])
 
 pub mains_keep_types : MainsKeepTypes
 mains_keep_types = record {

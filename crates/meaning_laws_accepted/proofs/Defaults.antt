@@ -30,7 +30,8 @@ use Rattle.typed_tree.specs.layer.TypedNodes.{MeetsObjects, MeetsHead, MeetsAffi
 use Rattle.typed_tree.specs.layer.TypedNodes.{MeetsLast}
 use Rattle.typed_tree.specs.layer.TypedNodes.{MeetsArms, MeetsItems, MeetsSwitch, MeetsFunction, behind}
 use Rattle.typed_tree.specs.layer.TypedNodes.{behind_all, around}
-use Rattle.source_meaning.specs.Running.{Running, running, parameters_in}
+use Rattle.source_meaning.specs.Running.{Running, running}
+use Rattle.source_meaning.specs.layer.Parts.{parameters_in}
 use Rattle.source_meaning.specs.Types.{conversion}
 use Rattle.source_meaning.specs.Expressions.{type_of, step_operator}
 use Rattle.source_meaning.specs.Statements.{element_type}

@@ -6,7 +6,7 @@ use Rattle.upc_types.specs.declared.layout.Known.{Known}
 use Rattle.upc_types.specs.Types.{Member, Completed, Structs, base_of, members_of, members_in}
 use Rattle.upc_types.specs.Layout.{aligned, base_layout, layout_in, member_layouts, offset_behind, known_in, complete_in}
 use Rattle.upc_types.specs.Layout as layout
-use Rattle.source_meaning.specs.Types.{offset_from, offset_in}
+use Rattle.source_meaning.specs.Types.{offset_from}
 
 within : (structs : Structs) (ms : List Member) (start n : ℕ) → n < length ms
     → offset_from structs start n ms ≡ offset_behind start (member_layouts (layout_in structs.completed) ms) n
@@ -36,14 +36,14 @@ none_of (c ∷ older) number h = by_test (c.number == number) _ h (none_of older
     by_test false k h older_none = older_none h
 
 pub offset_within : (structs : Structs) (number n : ℕ) → n < length (members_of structs number)
-    → offset_in structs (Some number) n ≡ layout.member_offset structs number n
+    → offset_from structs 0 n (members_of structs number) ≡ layout.member_offset structs number n
 offset_within structs number n h = within structs (members_of structs number) 0 n h
 
 pub offset_past : (structs : Structs) (number n : ℕ) → length (members_of structs number) ≤ n
-    → offset_in structs (Some number) n ≡ 0
+    → offset_from structs 0 n (members_of structs number) ≡ 0
 offset_past structs number n h = past structs (members_of structs number) 0 n h
 
 pub offset_incomplete : (structs : Structs) (number n : ℕ) → complete_in structs.completed number ≡ false
-    → offset_in structs (Some number) n ≡ 0
+    → offset_from structs 0 n (members_of structs number) ≡ 0
 offset_incomplete structs number n h =
     ap (λ (ms : List Member). offset_from structs 0 n ms) (none_of structs.completed number h)

@@ -6,6 +6,7 @@ ghost use Rattle.typed_tree.specs.Initials as initials;
 ghost use Rattle.typed_tree.specs.ViewStatements.{view_function};
 ghost use Rattle.typed_tree.specs.ViewTree.{view_expr};
 ghost use Rattle.source_meaning.specs.Expressions as mean;
+ghost use Rattle.source_meaning.specs.layer.Parts as parts;
 ghost use Rattle.source_meaning.specs.Threads as threads;
 
 use std::alloc::Global;
@@ -76,7 +77,7 @@ pub fn format_of(alloc: Global, e: &Expr) -> Result<Text, OutOfMemory>
 
 /// Whether a function is main (C99 5.1.2.2.1).
 pub fn is_main(function: &Function) -> bool
-    ensures { result ≡ threads.is_main (view_function function.now) }
+    ensures { result ≡ parts.is_main (view_function function.now) }
 {
     function.name.as_slice() == b"main".as_slice()
 }

@@ -2,6 +2,7 @@
 use Rattle.std.proofs.Common.{◌≡◌, ℕ, true, false, List, [], ◌∷◌, ◌++◌, Some, refl, sym, ap, subst, ◌∙◌, append-nil, inl, inr}
 use Rattle.std.proofs.lemmas.Bool.{cases_Bool}
 use Rattle.upc_values.specs.declared.scalar.Scalar.TheVariants.{Int, Shared, Lock}
+use Rattle.upc_values.specs.layer.Parts.{kind_read}
 use Rattle.upc_values.specs.declared.action.Action.{Action}
 use Rattle.upc_values.specs.declared.action.Action.TheVariants as act
 use Rattle.upc_values.specs.declared.action.Reply.{Reply}
@@ -10,7 +11,7 @@ use Rattle.upc_values.specs.declared.journal.Entry.{Entry}
 use Rattle.upc_values.specs.Drain.{entry_of}
 use Rattle.upc_values.specs.Openings.{Opening, cell_of}
 use Rattle.upc_values.specs.History.{IsLegal, IsLegalFrom, reply}
-use Rattle.upc_values.specs.Formed.{IsWellFormed, AreWellFormed, AreWellFormedFrom, fits, fits_after, kind_read}
+use Rattle.upc_values.specs.Formed.{IsWellFormed, AreWellFormed, AreWellFormedFrom, fits, fits_after}
 use Rattle.upc_values.specs.layer.Known.{gives_known, AreKnown, HasGiven}
 use Rattle.upc_values.proofs.Lists.{each-grow}
 use Rattle.replica_space.specs.declared.event.Event.{Event}

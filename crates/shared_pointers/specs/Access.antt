@@ -20,17 +20,13 @@ abbrev pub in_piece : SharedPtr → ℕ → ℕ → Bool
 in_piece p width threads =
     int_le (pos 0) p.offset && int_le (p.offset +ℤ pos width) (pos (piece_of p.object p.thread threads))
 
--- The byte of its element to which a pointer points. The elements follow one another in a piece.
-abbrev pub byte_of_element : SharedPtr → Shape → ℕ
-byte_of_element p shape = floor_mod p.offset shape.size
-
 -- The location that an access of this kind through p names, or the first of its run errors, which are tested in this
--- order (C99 6.5.3.2, UPC 6.5.1.1).
+-- order. The elements follow one another in a piece (C99 6.5.3.2, UPC 6.5.1.1).
 abbrev pub cell_at : SharedPtr → Shape → Kind → ℕ → Result Loc ℕ
 cell_at p shape kind threads =
     if is_null p
     then Err NULL_ACCESS
     else
     if in_piece p (kind_size kind) threads
-    then (if has_cell shape.cells (byte_of_element p shape) kind then Ok (location p) else Err CELL_TYPE)
+    then (if has_cell shape.cells (floor_mod p.offset shape.size) kind then Ok (location p) else Err CELL_TYPE)
     else Err OUT_OF_OBJECT

@@ -8,16 +8,15 @@ use Rattle.block_layout.specs.declared.run_error.TheConstants.{NULL_ACCESS, NOT_
 use Rattle.block_layout.specs.Places.{in_range}
 use Rattle.block_layout.specs.Pointers.{is_null, same_object}
 
--- The pointer to the member at this offset of the struct to which p points (UPC 6.4.4).
-abbrev pub member_pointer : SharedPtr → ℕ → SharedPtr
-member_pointer p offset = record p { phase = 0; offset = p.offset +ℤ pos offset }
-
 -- What `&p->m` gives: the pointer to the member, where its offset is in range (C99 6.5.2.3, UPC 6.4.4).
 abbrev pub member_of : SharedPtr → ℕ → Result SharedPtr ℕ
 member_of p offset =
     if is_null p
     then Err NULL_ACCESS
-    else if in_range (p.offset +ℤ pos offset) then Ok (member_pointer p offset) else Err POINTER_RANGE
+    else
+    if in_range (p.offset +ℤ pos offset)
+    then Ok (record p { phase = 0; offset = p.offset +ℤ pos offset })
+    else Err POINTER_RANGE
 
 -- What a cast from one block to another gives: the same target, with phase 0 where the blocks differ (UPC 6.4.3).
 abbrev pub cast_block : SharedPtr → (from into : ℕ) → SharedPtr

@@ -24,21 +24,17 @@ element_in_row p block = p.thread * block + p.phase
 abbrev pub row_offset : SharedPtr → ℕ → ℤ
 row_offset p size = p.offset -ℤ pos (p.phase * size)
 
--- The pointer that lies i elements after p, with a block of at least 1 (UPC 6.4.2).
-abbrev pub moved_by_blocks : SharedPtr → ℤ → ℕ → ℕ → ℕ → SharedPtr
-moved_by_blocks p i block size threads =
-    let e = pos (element_in_row p block) +ℤ i in
-    record {
-      object = p.object;
-      thread = thread_at e block threads;
-      phase = phase_at e block;
-      offset = offset_at e block size threads +ℤ row_offset p size;
-    }
-
 -- The pointer that lies i elements after p (UPC 6.4.2).
 abbrev pub moved : SharedPtr → ℤ → ℕ → ℕ → ℕ → SharedPtr
 moved p i zero size threads = record p { offset = p.offset +ℤ i *ℤ pos size }
-moved p i (suc b) size threads = moved_by_blocks p i (suc b) size threads
+moved p i (suc b) size threads =
+    let e = pos (element_in_row p (suc b)) +ℤ i in
+    record {
+      object = p.object;
+      thread = thread_at e (suc b) threads;
+      phase = phase_at e (suc b);
+      offset = offset_at e (suc b) size threads +ℤ row_offset p size;
+    }
 
 -- What `p + i` gives: the pointer moved, where its offset is in range (UPC 6.4.2).
 abbrev pub advanced : SharedPtr → ℤ → ℕ → ℕ → ℕ → Result SharedPtr ℕ
@@ -46,16 +42,12 @@ advanced p i block size threads =
     let q = moved p i block size threads in
     if is_null p then Err NULL_ACCESS else if in_range q.offset then Ok q else Err POINTER_RANGE
 
--- How many elements q would lie after p, with a block of at least 1: whole rows apart, and places in the row apart.
-abbrev pub apart_by_blocks : SharedPtr → SharedPtr → ℕ → ℕ → ℕ → ℤ
-apart_by_blocks q p block size threads =
-    floor_div (row_offset q size -ℤ row_offset p size) (block * size) *ℤ pos block *ℤ pos threads
-    +ℤ (pos (element_in_row q block) -ℤ pos (element_in_row p block))
-
--- How many elements q would lie after p.
+-- How many elements q would lie after p: with a block of at least 1, whole rows apart, and places in the row apart.
 abbrev pub apart : SharedPtr → SharedPtr → ℕ → ℕ → ℕ → ℤ
 apart q p zero size threads = floor_div (q.offset -ℤ p.offset) size
-apart q p (suc b) size threads = apart_by_blocks q p (suc b) size threads
+apart q p (suc b) size threads =
+    floor_div (row_offset q size -ℤ row_offset p size) (suc b * size) *ℤ pos (suc b) *ℤ pos threads
+    +ℤ (pos (element_in_row q (suc b)) -ℤ pos (element_in_row p (suc b)))
 
 -- What `q - p` gives: the number x for which `p + x` is q, where there is one (UPC 6.4.2).
 abbrev pub difference : SharedPtr → SharedPtr → ℕ → ℕ → ℕ → Result ℤ ℕ

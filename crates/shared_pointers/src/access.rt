@@ -5,7 +5,8 @@ ghost use Rattle.block_layout.specs.Places.{InRange};
 ghost use Rattle.block_layout.specs.Pointers.{IsNull, location};
 ghost use Rattle.block_layout.specs.Shapes.{IsShape, kind_size};
 ghost use Rattle.shared_pointers.specs.layer.Ranges.{IsThreads};
-ghost use Rattle.shared_pointers.specs.Access.{IsInPiece, in_piece, byte_of_element, cell_at};
+ghost use Rattle.shared_pointers.specs.layer.Parts.{byte_of_element};
+ghost use Rattle.shared_pointers.specs.Access.{IsInPiece, in_piece, cell_at};
 
 use block_layout::run_error::{CELL_TYPE, NULL_ACCESS, OUT_OF_OBJECT};
 use block_layout::{Kind, Loc, Shape, SharedPtr, piece_bytes};

@@ -4,7 +4,8 @@ ghost use Rattle.std.specs.Prelude.{◌≡◌, ◌≢◌, ◌⊎◌, ◌↔◌, 
 ghost use Rattle.block_layout.specs.Places.{InRange};
 ghost use Rattle.block_layout.specs.Pointers.{IsNull};
 ghost use Rattle.shared_pointers.specs.layer.Ranges.{IsPhase};
-ghost use Rattle.shared_pointers.specs.Casts.{member_of, member_pointer, cast_block, local_of};
+ghost use Rattle.shared_pointers.specs.layer.Parts.{member_pointer};
+ghost use Rattle.shared_pointers.specs.Casts.{member_of, cast_block, local_of};
 
 use block_layout::run_error::{NOT_LOCAL, NULL_ACCESS, POINTER_RANGE};
 use block_layout::{FARTHEST, LocalPtr, SharedPtr};

@@ -12,6 +12,7 @@ use Rattle.block_layout.specs.declared.place.SharedPtr.{SharedPtr}
 use Rattle.block_layout.specs.Pointers.{null}
 use Rattle.integers.specs.Integers.{values, in_kind, converted}
 use Rattle.upc_values.specs.declared.scalar.Scalar.TheVariants.{Int, Shared, Lock}
+use Rattle.upc_values.specs.layer.Parts.{copies}
 use Rattle.upc_values.specs.declared.scalar.Value.{Value}
 use Rattle.upc_values.specs.declared.scalar.Value.TheVariants as value
 use Rattle.upc_values.specs.declared.library.ElementKind.{ElementKind}
@@ -19,7 +20,7 @@ use Rattle.upc_values.specs.declared.library.ElementKind.TheVariants as element
 use Rattle.upc_values.specs.declared.library.LibraryCall.{LibraryCall}
 use Rattle.upc_values.specs.declared.library.LibraryCall.TheVariants as c
 use Rattle.upc_values.specs.Calls.{Call, Permutes, Reduces, Reduces_prefixes, Other, Way, is_size, is_int, way_of}
-use Rattle.upc_values.specs.Calls.{copies, call_of}
+use Rattle.upc_values.specs.Calls.{call_of}
 use Rattle.upc_values.specs.Calls as calls
 use Rattle.upc_values.specs.LibraryCalls.{scalars, element_number, with_element}
 use Rattle.typing_rules.specs.Library.{call_parameters}
@@ -76,7 +77,7 @@ call_if : (b : Bool) (call : Call) → b ≡ true → is_call call ≡ true → 
 call_if b call h g = and_from (is_call (cond b call Other)) true (formed_if b call h g) refl
 
 copy_if : (b : Bool) (w : Option Way) (x : Way) (dst src : SharedPtr) (n : ℕ) (f : ℤ) → b ≡ true → w ≡ Some x
-    → (is_call (cond b (copies w dst src n f) Other) && true) ≡ true
+    → (is_call (cond b (copies dst src n f w) Other) && true) ≡ true
 copy_if true (Some w) x dst src n f h g = refl
 copy_if true None x dst src n f h g = absurd cc
 copy_if false w x dst src n f h g = absurd (false≢true h)

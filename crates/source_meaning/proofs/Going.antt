@@ -5,13 +5,14 @@ use Rattle.std.proofs.lemmas.List.{length-append}
 use Rattle.block_layout.specs.declared.kind.Kind.{Kind}
 use Rattle.block_layout.specs.declared.kind.Shape.{Shape}
 use Rattle.upc_values.specs.declared.action.Action.{Action}
+use Rattle.upc_values.specs.layer.Parts.{kind_read}
 use Rattle.upc_values.specs.declared.action.Action.TheVariants as act
 use Rattle.upc_values.specs.declared.scalar.Scalar.TheVariants.{Int, Shared, Lock}
 use Rattle.upc_values.specs.declared.action.Reply.{Reply}
 use Rattle.upc_values.specs.declared.action.Reply.TheVariants as reply
 use Rattle.upc_values.specs.declared.record.ToldEnd.TheVariants.{Wants}
 use Rattle.upc_values.specs.Outcomes.{Outcome}
-use Rattle.upc_values.specs.Formed.{fits, kind_read}
+use Rattle.upc_values.specs.Formed.{fits}
 use Rattle.typed_tree.specs.Programs.{Checked}
 use Rattle.thread_steps.specs.States.{Thread}
 use Rattle.thread_steps.proofs.Fronts.{none_left, all_of}

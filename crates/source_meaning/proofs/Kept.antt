@@ -42,6 +42,7 @@ use Rattle.thread_steps.specs.Blocks as b
 use Rattle.thread_steps.proofs.Kept as k
 use Rattle.thread_steps.proofs.Kept.{Property, IsKept}
 use Rattle.source_meaning.specs.Types as t
+use Rattle.source_meaning.specs.layer.Parts as parts
 use Rattle.source_meaning.specs.Running.{Running, parameters_of}
 use Rattle.source_meaning.specs.Expressions as e
 use Rattle.source_meaning.specs.Expressions.{Calls}
@@ -391,7 +392,7 @@ module _ (ρ : Running) (P : Property) (K : IsKept ρ.thread P) where
       kind_kept : (κ : Standing) (at : Place) (kind : StatementKind)
           → P ρ.thread.budget d Flow (s.run_kind ρ call κ at kind)
       kind_kept κ at (Block strict items) = blocked_kept ρ.thread.budget d κ.count (s.objects_in items) at _
-          (items_kept (s.with_strict strict κ) items)
+          (items_kept (parts.with_strict strict κ) items)
       kind_kept κ at (tree.Value c) = aside_kept κ c
       kind_kept κ at (If arms last) = arms_kept κ arms (s.run_last ρ call κ last) (otherwise_kept κ last)
       kind_kept κ at (Switch c items) =

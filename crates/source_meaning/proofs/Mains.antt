@@ -5,7 +5,8 @@ use Rattle.std.proofs.lemmas.List.{drop_all}
 use Rattle.upc_types.proofs.Members.{next}
 use Rattle.typed_tree.specs.declared.tree.Function as f
 use Rattle.typed_tree.specs.ViewStatements.{view_function}
-use Rattle.source_meaning.specs.Threads.{is_main, main_of}
+use Rattle.source_meaning.specs.Threads.{main_of}
+use Rattle.source_meaning.specs.layer.Parts.{is_main}
 
 pub main_found : (xs : List f.Function) (i : ℕ) (x : f.Function) → i < length xs → x ≡ get_or xs i x
     → is_main (view_function x) ≡ true → main_of (map view_function (drop i xs)) ≡ Some (view_function x)

@@ -208,18 +208,16 @@ module _ (ρ : Running) where
 
   -- The operator by which `++` and `--` change their operand by 1 (C99 6.5.2.4, 6.5.3.1).
   abbrev pub step_operator : StepOperator → BinOp
-  step_operator step.IncrementFirst = op.Add
-  step_operator step.IncrementAfter = op.Add
   step_operator step.DecrementFirst = op.Subtract
   step_operator step.DecrementAfter = op.Subtract
+  step_operator o = op.Add
 
   -- Which of the old and the new value `++` and `--` give: before their operand the new one, after it the old one
   -- (C99 6.5.2.4, 6.5.3.1).
   abbrev pub step_value : StepOperator → (old new : Value) → Value
   step_value step.IncrementFirst old new = new
   step_value step.DecrementFirst old new = new
-  step_value step.IncrementAfter old new = old
-  step_value step.DecrementAfter old new = old
+  step_value o old new = old
 
   -- The value of an expression, converted into a type (C99 6.5.16.1).
   abbrev pub converted_to : CType → Expr → Doing Value → Doing Value
@@ -235,15 +233,13 @@ module _ (ρ : Running) where
 
   -- ---- calls of the library (C99 7.19.6.3, UPC 7.2, 7.3)
 
-  -- The number of the shape of this type's leaf elements among the program's shapes, 0 without a type (UPC 6.5.1.1).
-  abbrev pub shape_number : Option CType → ℕ
-  shape_number (Some t) = number_among ρ.thread.shapes (element_shape ρ.structs t)
-  shape_number None = 0
-
-  -- The number of the shape of the elements that an allocation makes, which are those to which its pointer leads; any
-  -- other call has 0 (UPC 7.2.2).
+  -- The number of the shape of the elements that an allocation makes, which are the leaf elements of what its pointer
+  -- leads to; any other call has 0 (UPC 6.5.1.1, 7.2.2).
   abbrev pub allocated_shape : LibraryCall → CType → ℕ
-  allocated_shape c t = if is_allocation c then shape_number (target_of t) else 0
+  allocated_shape c t =
+      if is_allocation c
+      then elim (target_of t) [ Some u ↦ number_among ρ.thread.shapes (element_shape ρ.structs u) | None ↦ 0 ]
+      else 0
 
   -- ---- expressions. In a block whose accesses are strict or not; `call` says what calls of functions do.
   module _ (call : Calls) (strict : Bool) where

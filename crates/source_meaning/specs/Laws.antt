@@ -29,9 +29,8 @@ use Rattle.source_meaning.specs.Threads.{course, initial_state, thread_outcome}
 
 -- A value came, or the thread ended: no definition lacked turns.
 abbrev pub IsFinished : {A : Type 0} → Res A → Type 0
-IsFinished (Val v σ) = Unit {0}
-IsFinished (Over e σ) = Unit {0}
 IsFinished Unfinished = ⊥
+IsFinished r = Unit {0}
 
 -- With a budget of at least one tick no thread of a program is unfinished.
 pub record IsTotal (program : Checked) : Type 0 where
@@ -175,8 +174,7 @@ AreSoMany n args = ⊥
 -- The value of a result passes, if it has one.
 abbrev pub GivesIn : {A : Type 0} → (A → Type 0) → Res A → Type 0
 GivesIn V (Val v σ) = V v
-GivesIn V (Over e σ) = Unit {0}
-GivesIn V Unfinished = Unit {0}
+GivesIn V r = Unit {0}
 
 -- Whatever value comes of what is done passes.
 pub record Gives (A : Type 0) (V : A → Type 0) (m : Doing A) : Type 0 where

@@ -4,3 +4,4 @@ pub mod Expressions
 pub mod Statements
 pub mod Threads
 pub mod Laws
+pub mod layer

@@ -38,11 +38,6 @@ start_in None = value.Scalar (Shared null)
 abbrev pub shared_object : Running → ℕ → Value
 shared_object ρ number = start_in (numbered ρ.shared number)
 
--- The types of the parameters of a function; a function that is missing has none (C99 6.9.1).
-abbrev pub parameters_in : Option Function → List CType
-parameters_in (Some f) = f.parameters
-parameters_in None = []
-
--- The types of the parameters of the function with this number (C99 6.9.1).
+-- The types of the parameters of the function with this number; a function that is missing has none (C99 6.9.1).
 abbrev pub parameters_of : Running → ℕ → List CType
-parameters_of ρ number = parameters_in (slice_get ρ.functions number)
+parameters_of ρ number = elim (slice_get ρ.functions number) [ Some f ↦ f.parameters | None ↦ [] ]

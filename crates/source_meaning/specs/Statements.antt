@@ -46,10 +46,6 @@ pub record Standing : Type 0 where
   pub count : ℕ
   pub result : CType
 
--- The standing in a block whose accesses that do not say so are strict or relaxed (UPC 6.7).
-abbrev pub with_strict : Bool → Standing → Standing
-with_strict strict κ = record κ { strict = strict }
-
 -- The standing after the declaration of some objects, which are then in scope (C99 6.2.1).
 abbrev pub with_objects : List DeclaredObject → Standing → Standing
 with_objects objects κ = record κ { count = κ.count + length objects }
@@ -60,32 +56,25 @@ with_objects objects κ = record κ { count = κ.count + length objects }
 -- `return` leave the list (C99 6.8.2, 6.8.6).
 abbrev pub go_on : Flow → Does → Does
 go_on Next rest = rest
-go_on Broke rest = give Broke
-go_on Again rest = give Again
-go_on (Gave v) rest = give (Gave v)
+go_on f rest = give f
 
 -- What follows the body in a loop, by how it is left: `break` leaves the loop, and `continue` the body alone
 -- (C99 6.8.6.2, 6.8.6.3).
 abbrev pub turn_on : Flow → Does → Does
-turn_on Next rest = rest
 turn_on Broke rest = give Next
-turn_on Again rest = rest
 turn_on (Gave v) rest = give (Gave v)
+turn_on f rest = rest
 
 -- How a switch is left, by how its parts are: `break` leaves the switch alone (C99 6.8.6.3).
 abbrev pub caught : Flow → Flow
-caught Next = Next
 caught Broke = Next
-caught Again = Again
-caught (Gave v) = Gave v
+caught f = f
 
 -- How a turn of a upc_forall is left, by how its body is: at its end, or by `return`; in a typed program neither
 -- `break` nor `return` leaves the body (UPC 6.6.2).
 abbrev pub finished : Flow → Flow
-finished Next = Next
-finished Broke = Next
-finished Again = Next
 finished (Gave v) = Gave v
+finished f = Next
 
 -- The objects that a block itself declares, in order.
 abbrev pub objects_in : Items → List DeclaredObject
@@ -239,7 +228,7 @@ module _ (ρ : Running) where
       pub run_kind : Standing → Place → StatementKind → Does
       -- a block (C99 6.8.2, UPC 6.7)
       run_kind κ at (Block strict items) = blocked κ.count (objects_in items) at
-          (run_items (with_strict strict κ) items)
+          (run_items (record κ { strict = strict }) items)
       -- an expression, or none (C99 6.8.3)
       run_kind κ at (tree.Value e) = aside κ e
       -- if (C99 6.8.4.1)

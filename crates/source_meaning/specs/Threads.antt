@@ -36,18 +36,9 @@ abbrev pub blank_of : Option Kind → Value
 blank_of (Some k) = blank_value k
 blank_of None = no_value
 
--- What a function gives by how its body is left: the value of its `return`, else 0 or null (C99 6.8.6.4, 6.9.1).
-abbrev pub given_by : Value → Flow → Value
-given_by blank (Gave v) = v
-given_by blank flow = blank
-
--- The function is named main (C99 5.1.2.2.1).
-abbrev pub is_main : Function → Bool
-is_main f = pointwise nat_eq f.name (codes "main")
-
--- The function main, if there is one (C99 5.1.2.2.1).
+-- The function that is named main, if there is one (C99 5.1.2.2.1).
 abbrev pub main_of : List Function → Option Function
-main_of functions = find is_main functions
+main_of functions = find (λ f. pointwise nat_eq f.name (codes "main")) functions
 
 module _ (ρ : Running) where
   -- What the body of a function stands in, with the function's parameters in scope (C99 6.2.1, 6.9.1).
@@ -80,12 +71,13 @@ module _ (ρ : Running) where
   body call f args (Stands at (Block strict items)) = opened call f args at strict items
   body call f args s = run ρ call (in_body f false) s
 
-  -- A function from its first statement to its end, with these arguments; one that is missing does nothing.
+  -- A function from its first statement to its end, with these arguments: it gives the value of its `return`, else 0 or
+  -- null (C99 6.8.6.4, 6.9.1); one that is missing does nothing.
   abbrev pub function : Calls → Option Function → List Value → Doing Value
   function call None args = give no_value
   function call (Some f) args = do
     flow ← body call f args f.body
-    give (given_by (blank_of (cell_kind ρ.structs f.result)) flow)
+    give (elim flow [ Gave v ↦ v | _ ↦ blank_of (cell_kind ρ.structs f.result) ])
 
   -- A call of a function where so many more may become active (C99 6.5.2.2). `begin_call` ends the thread where no
   -- more may.

@@ -32,17 +32,10 @@ target_of t = base_target (base_of t)
 abbrev pub integer_of : CType → Option Kind
 integer_of t = base_kind (base_of t)
 
--- Whether an access is strict: by the word `strict` or `relaxed` of its object's type, and where the type has neither
--- by the block (UPC 6.5.1.1, 6.7).
-abbrev pub strict_by : Bool → Access → Bool
-strict_by block Unsaid = block
-strict_by block Strict = true
-strict_by block Relaxed = false
-
--- Whether an access to an object of this type is strict: by the type, else by the block in which the access stands
--- (UPC 6.5.1.1, 6.7).
+-- Whether an access to an object of this type is strict: by the word `strict` or `relaxed` of the type, and where it
+-- has neither by the block in which the access stands (UPC 6.5.1.1, 6.7).
 abbrev pub is_strict : Bool → CType → Bool
-is_strict block t = strict_by block (access_of t)
+is_strict block t = elim (access_of t) [ Unsaid ↦ block | Strict ↦ true | Relaxed ↦ false ]
 
 -- ---- conversions (C99 6.3, 6.5.4; UPC 6.4.3)
 
@@ -78,14 +71,9 @@ parameter_conversion Size = to.Integer kind.ULong
 parameter_conversion Int = to.Integer kind.Int
 parameter_conversion NoFunction = to.Integer kind.Int
 
--- The integer promotion of a value of this kind; a value of no integer kind is discarded (C99 6.3.1.1).
-abbrev pub promotion_of : Option Kind → CastTo
-promotion_of (Some k) = to.Integer (promoted k)
-promotion_of None = to.Nothing
-
--- The integer promotion of a value of this type (C99 6.3.1.1, 6.5.2.2).
+-- The integer promotion of a value of this type; a value of no integer type is discarded (C99 6.3.1.1, 6.5.2.2).
 abbrev pub promotion : CType → CastTo
-promotion t = promotion_of (integer_of t)
+promotion t = elim (integer_of t) [ Some k ↦ to.Integer (promoted k) | None ↦ to.Nothing ]
 
 -- Each argument's conversion into its parameter's type, while there are both (C99 6.5.2.2).
 abbrev pub conversions : (arguments parameters : List CType) → List CastTo
@@ -95,14 +83,9 @@ conversions as_ ps = []
 -- ---- layout, where the structs have these members and the targets of pointers these numbers. A type without layout
 -- counts as one byte without cells; in a typed program no object has such a type.
 module _ (structs : Structs) where
-  -- The size in bytes that a layout gives; a type without layout counts as one byte (C99 6.5.3.4).
-  abbrev pub bytes_or_one : Option Layout → ℕ
-  bytes_or_one (Some l) = l.size
-  bytes_or_one None = 1
-
-  -- The size in bytes of an object (C99 6.5.3.4).
+  -- The size in bytes of an object; a type without layout counts as one byte (C99 6.5.3.4).
   abbrev pub bytes_of : Base → ℕ
-  bytes_of b = bytes_or_one (base_within structs.completed b)
+  bytes_of b = elim (base_within structs.completed b) [ Some l ↦ l.size | None ↦ 1 ]
 
   -- The kind of the cell of a scalar type; an array or a struct has none of its own (C99 6.2.5).
   abbrev pub cell_kind : CType → Option Kind
@@ -135,14 +118,9 @@ module _ (structs : Structs) where
       let l = base_layout (layout_in structs.completed) (base_of m.ctype) in
       offset_from (aligned end l.align + l.size) n ms
 
-  -- The bytes before member n of the struct with this number, 0 where there is no struct (C99 6.7.2.1).
-  abbrev pub offset_in : Option ℕ → ℕ → ℕ
-  offset_in (Some number) n = offset_from 0 n (members_of structs number)
-  offset_in None n = 0
-
-  -- The bytes before member n of a struct of this type (C99 6.7.2.1).
+  -- The bytes before member n of a struct of this type, 0 where there is no struct (C99 6.7.2.1).
   abbrev pub member_offset : CType → ℕ → ℕ
-  member_offset t n = offset_in (base_struct (base_of t)) n
+  member_offset t n = elim (base_struct (base_of t)) [ Some s ↦ offset_from 0 n (members_of structs s) | None ↦ 0 ]
 
   -- The bytes before member n of the struct to which a pointer leads, 0 where it leads to none (C99 6.5.2.3, 6.7.2.1).
   abbrev pub target_offset : Option CType → ℕ → ℕ

@@ -17,6 +17,8 @@ use Rattle.block_layout.specs.Shapes.{kind_size}
 use Rattle.block_layout.proofs.Numbers.{floor_mod-below}
 use Rattle.integers.specs.Integers.{in_kind}
 use Rattle.upc_values.specs.declared.scalar.Scalar.{Scalar}
+use Rattle.upc_values.specs.layer.Parts.{copies, is_kind, back_to}
+use Rattle.upc_values.specs.layer.Parts as parts
 use Rattle.upc_values.specs.declared.scalar.Scalar.TheVariants as scalar
 use Rattle.upc_values.specs.declared.scalar.Mark.TheVariants.{Absent}
 use Rattle.upc_values.specs.declared.action.Action.{Action}
@@ -28,11 +30,11 @@ use Rattle.upc_values.specs.Openings.{Opening}
 use Rattle.upc_values.specs.History.{each_thread}
 use Rattle.upc_values.specs.Calls.{Call, Allocates, Makes_lock, Frees, Frees_lock, Copies, Permutes, Reduces}
 use Rattle.upc_values.specs.Calls.{Reduces_prefixes, Other, Way, Broadcast, Scatter, Gather, Gather_all, Exchange}
-use Rattle.upc_values.specs.Calls.{is_size, is_int, way_of, copies, call_of}
+use Rattle.upc_values.specs.Calls.{is_size, is_int, way_of, call_of}
 use Rattle.upc_values.specs.Expansion.{Expansion, Gives, nothing, bind, does, barrier, each_in_turn, gathered}
 use Rattle.upc_values.specs.Expansion.{refused_by}
-use Rattle.upc_values.specs.Reductions.{Reduction, reduction, step, reduced, back_to, promoted, element_kind}
-use Rattle.upc_values.specs.Views.{from_phase_0, with_block, element, byte_at, leaves_range, leaves_piece, is_kind}
+use Rattle.upc_values.specs.Reductions.{Reduction, reduction, step, reduced, promoted, element_kind}
+use Rattle.upc_values.specs.Views.{from_phase_0, with_block, element, byte_at, leaves_range, leaves_piece}
 use Rattle.block_layout.specs.Cells.{same_cells}
 use Rattle.upc_values.specs.Views.{shape_at, is_cell, destination, source}
 use Rattle.upc_values.specs.Copying.{In_shared}
@@ -118,8 +120,8 @@ module _ (o : Opening) (past : List Reply) where
   may_if false call h f = absurd (false≢true h)
 
   may_copy : (b : Bool) (w : Option Way) (dst src : SharedPtr) (n : ℕ) (f : ℤ)
-      → is_call (cond b (copies w dst src n f) Other) ≡ true → knows o past dst ≡ true → knows o past src ≡ true
-      → may_call o past (cond b (copies w dst src n f) Other) ≡ true
+      → is_call (cond b (copies dst src n f w) Other) ≡ true → knows o past dst ≡ true → knows o past src ≡ true
+      → may_call o past (cond b (copies dst src n f w) Other) ≡ true
   may_copy true (Some w) dst src n f h hd hs = and_from (knows o past dst) (knows o past src) hd hs
   may_copy true None dst src n f h hd hs = absurd (false≢true h)
   may_copy false w dst src n f h hd hs = absurd (false≢true h)
@@ -266,7 +268,7 @@ module _ (o : Opening) (past : List Reply) (v : IsGround o) (R : Kind → Loc �
 
   -- ---- reads and writes of numbers
 
-  number_is : (k : Kind) (w : Scalar) → fits_kind w k ≡ true → IsOf k (x.number_of o.threads o.shapes me w)
+  number_is : (k : Kind) (w : Scalar) → fits_kind w k ≡ true → IsOf k (parts.number_of o.threads o.shapes me w)
   number_is k (scalar.Int n) h = (and_parts (is_integer k) (in_kind k n) h).1
   number_is k (scalar.Shared q) h = zero_of k
   number_is k (scalar.Lock l) h = zero_of k
@@ -341,7 +343,7 @@ module _ (o : Opening) (past : List Reply) (v : IsGround o) (R : Kind → Loc �
   operands_near : (q : SharedPtr) (block kind n : ℕ) → IsNear q
       → Each IsNear (x.operands o.threads o.shapes me q block kind n)
   operands_near q block kind n h =
-      each_of IsNear (x.operand o.threads o.shapes me q block kind) (range_with_len 0 n) (λ j.
+      each_of IsNear (parts.operand o.threads o.shapes me q block kind) (range_with_len 0 n) (λ j.
       element_near (with_block q block) block (kind_size (element_kind kind)) j (blocked_near q block h))
 
   -- ---- copies
@@ -425,7 +427,7 @@ module _ (o : Opening) (past : List Reply) (v : IsGround o) (R : Kind → Loc �
   permute_goes : (dst src perm : SharedPtr) (n : ℕ) → IsNear dst → IsNear src → IsNear perm
       → Goes Nothing (x.permute o.threads o.shapes me dst src perm n)
   permute_goes dst src perm n hd hs hp =
-      let qs = x.permutation o.threads o.shapes me perm in
+      let qs = parts.permutation o.threads o.shapes me perm in
       let own = byte_at dst n o.threads (me * n) in
       let some = not (n == 0) in
       let near =
@@ -438,7 +440,7 @@ module _ (o : Opening) (past : List Reply) (v : IsGround o) (R : Kind → Loc �
       ∷ [] in
       let copy : List ℤ → Expansion (Unit {0}) =
       λ ns. cond (n == 0) nothing (x.move o.threads o.shapes me n (x.chosen o.threads o.shapes me dst src n ns ∷ [])) in
-      let is_permutation : List ℤ → Bool = λ ns. each_thread o.threads (λ t. x.is_at o.threads o.shapes me t ns) in
+      let is_permutation : List ℤ → Bool = λ ns. each_thread o.threads (λ t. parts.is_at o.threads o.shapes me t ns) in
       let chosen : List ℤ → Expansion (Unit {0}) =
       λ ns. refused_by ((not (is_permutation ns), LIBRARY_ARGS) ∷ []) (copy ns) in
       let all : Expansion (List ℤ) = gathered (x.number_at o.threads o.shapes me kind.Int) qs in

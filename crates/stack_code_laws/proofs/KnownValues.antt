@@ -19,7 +19,7 @@ use Rattle.block_layout.specs.Pointers.{null, is_null, same_object}
 use Rattle.block_layout.proofs.Numbers.{floor_mod-below}
 use Rattle.block_layout.proofs.Pointers.{same_pointer-true}
 use Rattle.shared_pointers.specs.Steps.{moved, element_in_row}
-use Rattle.shared_pointers.specs.Casts.{member_pointer}
+use Rattle.shared_pointers.specs.layer.Parts.{member_pointer}
 use Rattle.upc_values.specs.declared.scalar.Scalar.{Scalar}
 use Rattle.upc_values.specs.declared.scalar.Scalar.TheVariants.{Int, Shared, Lock}
 use Rattle.upc_values.specs.declared.scalar.Value.{Value}

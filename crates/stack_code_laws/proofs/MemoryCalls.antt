@@ -15,6 +15,7 @@ use Rattle.block_layout.specs.Pointers.{is_null}
 use Rattle.block_layout.specs.Shapes.{kind_size, same_kind}
 use Rattle.integers.specs.Integers.{in_kind, converted}
 use Rattle.upc_values.specs.declared.scalar.Scalar.{Scalar}
+use Rattle.upc_values.specs.layer.Parts.{unless_refused, placed_kind}
 use Rattle.upc_values.specs.declared.scalar.Scalar.TheVariants as scalar
 use Rattle.upc_values.specs.declared.scalar.Value.{Value}
 use Rattle.upc_values.specs.declared.scalar.Value.TheVariants as value
@@ -25,9 +26,9 @@ use Rattle.upc_values.specs.Shapes.{kind_at, is_integer, fits_kind, value_fits}
 use Rattle.block_layout.specs.Cells.{is_private}
 use Rattle.upc_values.specs.Openings.{Opening}
 use Rattle.upc_values.specs.Expansion.{Expansion, Gives, Fails, Reads, Asks as Acts, Loads, Stores, bind, nothing}
-use Rattle.upc_values.specs.Expansion.{unless_refused, each_in_turn, refused_by}
+use Rattle.upc_values.specs.Expansion.{each_in_turn, refused_by}
 use Rattle.block_layout.specs.Cells.{same_cells}
-use Rattle.upc_values.specs.Views.{placed_kind, cells_within, location_behind}
+use Rattle.upc_values.specs.Views.{cells_within, location_behind}
 use Rattle.upc_values.specs.Copying as m
 use Rattle.upc_values.specs.Copying.{Area, Nowhere, In_shared, In_private, filled}
 use Rattle.upc_values.specs.LibraryCalls.{area_of}

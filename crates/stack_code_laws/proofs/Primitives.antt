@@ -37,6 +37,7 @@ use Rattle.upc_values.specs.Printing.{printed}
 use Rattle.private_store.specs.Live.{Live, entered, left, called, returned, controls}
 use Rattle.private_store.specs.Cells.{loaded, stored}
 use Rattle.thread_steps.specs.declared.cast.CastTo.{CastTo}
+use Rattle.thread_steps.specs.layer.Parts as parts
 use Rattle.thread_steps.specs.declared.elements.Elements.{Elements}
 use Rattle.thread_steps.specs.States.{Thread, Doing, ◌>>=◌, ◌>>◌, give, skip, know, change, choose, over, fault}
 use Rattle.thread_steps.specs.States.{fault_if, valued}
@@ -106,7 +107,7 @@ module _ (op : Opening) (past : List Reply) (v : IsGround op) (R : Kind → Loc 
         (ask_asks op past R me budget None action P (λ q. formed)) (λ r.
         skip_asks op past R (P × IsAnswer None action r))
 
-    unless_asks : (at : Place) (r : Reply) → Asks op past R (Unit {0}) P Nothing (a.unless_refused at r)
+    unless_asks : (at : Place) (r : Reply) → Asks op past R (Unit {0}) P Nothing (parts.unless_refused at r)
     unless_asks at reply.Done = skip_asks op past R P
     unless_asks at (reply.Value w) = skip_asks op past R P
     unless_asks at (reply.Flag f) = skip_asks op past R P
@@ -116,7 +117,7 @@ module _ (op : Opening) (past : List Reply) (v : IsGround op) (R : Kind → Loc 
       → Asks op past R (Unit {0}) P Nothing (a.does τ at action)
   does_asks P at action formed =
       then_asks op past R Reply (Unit {0}) P (IsAnswer None action) Nothing (a.ask τ None action)
-      (λ r. a.unless_refused at r)
+      (λ r. parts.unless_refused at r)
       (ask_asks op past R me budget None action P (λ q. formed)) (λ r. unless_asks (P × IsAnswer None action r) at r)
 
   -- The one, whatever it is for, and then the other.
@@ -128,10 +129,10 @@ module _ (op : Opening) (past : List Reply) (v : IsGround op) (R : Kind → Loc 
   pub tick_asks : (P : Type 0) → Asks op past R (Unit {0}) P Nothing (a.tick τ)
   unfolding a.tick
   tick_asks P =
-      on (Unit {0}) P Nothing (change a.with_tick) _
-      (change_asks op past R P a.with_tick (λ σ h. h) (λ σ. refl) (λ σ. refl) (λ σ r rs. refl)) (λ Q f.
-      then_asks op past R ℕ (Unit {0}) Q (λ n. Unit {0}) Nothing (know a.ticks_of) _
-      (know_asks op past R ℕ Q (λ n. Unit {0}) a.ticks_of (λ q σ g. tt) (λ σ r rs. refl)) (λ n.
+      on (Unit {0}) P Nothing (change parts.with_tick) _
+      (change_asks op past R P parts.with_tick (λ σ h. h) (λ σ. refl) (λ σ. refl) (λ σ r rs. refl)) (λ Q f.
+      then_asks op past R ℕ (Unit {0}) Q (λ n. Unit {0}) Nothing (know parts.ticks_of) _
+      (know_asks op past R ℕ Q (λ n. Unit {0}) parts.ticks_of (λ q σ g. tt) (λ σ r rs. refl)) (λ n.
       on (Unit {0}) (Q × Unit {0}) Nothing (choose (n % 1024 == 0) (do a.ask τ None act.Beat; skip) skip) _
       (choose_asks op past R (Unit {0}) (Q × Unit {0}) Nothing (n % 1024 == 0) _ _
       (only_asks (Q × Unit {0}) act.Beat tt) (skip_asks op past R (Q × Unit {0}))) (λ N g.
@@ -154,8 +155,8 @@ module _ (op : Opening) (past : List Reply) (v : IsGround op) (R : Kind → Loc 
   wait_asks P at mark =
       on (Unit {0}) P Nothing (fault_if a.is_controlled BARRIER_IN_FORALL at) _
       (fault_if_asks op past R P a.is_controlled BARRIER_IN_FORALL at (λ σ r rs. refl)) (λ Q f.
-      on (Unit {0}) Q Nothing (fault_if a.is_not_notified PHASE_ORDER at) _
-      (fault_if_asks op past R Q a.is_not_notified PHASE_ORDER at (λ σ r rs. refl)) (λ N g.
+      on (Unit {0}) Q Nothing (fault_if parts.is_not_notified PHASE_ORDER at) _
+      (fault_if_asks op past R Q parts.is_not_notified PHASE_ORDER at (λ σ r rs. refl)) (λ N g.
       on (Unit {0}) N Nothing (a.does τ at (act.Wait mark)) _
       (does_asks N at (act.Wait mark) tt) (λ S h.
       change_asks op past R S (a.with_notified false) (λ σ h. h) (λ σ. refl) (λ σ. refl) (λ σ r rs. refl))))
@@ -401,15 +402,15 @@ module _ (op : Opening) (past : List Reply) (v : IsGround op) (R : Kind → Loc 
       → Asks op past R (Unit {0}) P Nothing (b.open_block from shapes at)
   unfolding b.open_block
   open_asks P from shapes at =
-      on (Unit {0}) P Nothing (fault_if (b.is_too_large shapes) PRIVATE_SPACE at) _
-      (fault_if_asks op past R P (b.is_too_large shapes) PRIVATE_SPACE at (λ σ r rs. refl)) (λ Q f.
+      on (Unit {0}) P Nothing (fault_if (parts.is_too_large shapes) PRIVATE_SPACE at) _
+      (fault_if_asks op past R P (parts.is_too_large shapes) PRIVATE_SPACE at (λ σ r rs. refl)) (λ Q f.
       live_asks Q (entered from shapes) (λ live h. s.entered_filled op past from shapes live h))
 
   pub close_asks : (P : Type 0) → Asks op past R (Unit {0}) P Nothing b.close_block
   unfolding b.close_block
   close_asks P = live_asks P left (λ live h. s.left_filled op past live h)
 
-  place_known : (n : Option ℕ) → IsKnown (b.pointer_to n)
+  place_known : (n : Option ℕ) → IsKnown (parts.pointer_to n)
   place_known (Some n) = refl
   place_known None = tt
 
@@ -420,8 +421,8 @@ module _ (op : Opening) (past : List Reply) (v : IsGround op) (R : Kind → Loc 
   pub begin_asks : (P : Type 0) (at : Place) → Asks op past R (Unit {0}) P Nothing (b.begin_call at)
   unfolding b.begin_call
   begin_asks P at =
-      on (Unit {0}) P Nothing (fault_if b.is_deep DEPTH at) _
-      (fault_if_asks op past R P b.is_deep DEPTH at (λ σ r rs. refl)) (λ Q f.
+      on (Unit {0}) P Nothing (fault_if parts.is_deep DEPTH at) _
+      (fault_if_asks op past R P parts.is_deep DEPTH at (λ σ r rs. refl)) (λ Q f.
       live_asks Q called (λ live h. h))
 
   pub end_asks : (P : Type 0) → Asks op past R (Unit {0}) P Nothing b.end_call
@@ -430,11 +431,11 @@ module _ (op : Opening) (past : List Reply) (v : IsGround op) (R : Kind → Loc 
 
   pub control_asks : (P : Type 0) → Asks op past R (Unit {0}) P Nothing b.control
   unfolding b.control
-  control_asks P = live_asks P b.one_more (λ live h. s.recounted_filled op past (suc (controls live)) live h)
+  control_asks P = live_asks P parts.one_more (λ live h. s.recounted_filled op past (suc (controls live)) live h)
 
   pub release_asks : (P : Type 0) → Asks op past R (Unit {0}) P Nothing b.release
   unfolding b.release
-  release_asks P = live_asks P b.one_less (λ live h. s.recounted_filled op past (pred (controls live)) live h)
+  release_asks P = live_asks P parts.one_less (λ live h. s.recounted_filled op past (pred (controls live)) live h)
 
   -- ---- the library
 

@@ -29,9 +29,11 @@ use Rattle.upc_values.specs.Shapes.{kind_at, cell_in, fits_kind, blank}
 use Rattle.block_layout.specs.Cells.{is_private}
 use Rattle.upc_values.specs.Openings.{Opening, IsSharable}
 use Rattle.upc_values.specs.Views.{leaves_piece, shape_at, location_behind}
-use Rattle.shared_pointers.specs.Access.{cell_at, in_piece, byte_of_element}
+use Rattle.shared_pointers.specs.Access.{cell_at, in_piece}
+use Rattle.shared_pointers.specs.layer.Parts.{byte_of_element}
 use Rattle.private_store.proofs.Places.{some_bytes}
-use Rattle.thread_steps.specs.Accesses.{shape_or_byte, cell}
+use Rattle.thread_steps.specs.Accesses.{cell}
+use Rattle.thread_steps.specs.layer.Parts.{shape_or_byte}
 use Rattle.thread_steps.specs.Values.{kept_scalar}
 use Rattle.stack_code_laws.specs.code.Names.{objects_given}
 use Rattle.stack_code_laws.proofs.Given.{IsGround, names, knows, IsCellThere}

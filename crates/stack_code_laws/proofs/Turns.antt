@@ -5,8 +5,9 @@ use Rattle.upc_values.specs.declared.record.ToldEnd.{ToldEnd}
 use Rattle.upc_values.specs.declared.record.ToldEnd.TheVariants as told
 use Rattle.upc_values.specs.Outcomes.{Outcome}
 use Rattle.thread_steps.specs.States.{Thread, State, Res, Val, Over, Unfinished, Doing}
+use Rattle.thread_steps.specs.layer.Parts.{turned_by}
 use Rattle.thread_steps.specs.Actions.{tick}
-use Rattle.thread_steps.specs.layer.Fronts.{turned_by, IsInTurn}
+use Rattle.thread_steps.specs.layer.Fronts.{IsInTurn}
 use Rattle.thread_steps.proofs.Turning.{IsFine, Ends, InTurn, turning}
 use Rattle.stack_code.specs.layer.Codes.{Codes, thread_of}
 use Rattle.stack_code.specs.layer.Steps.{Conf, At, Halt, steps}

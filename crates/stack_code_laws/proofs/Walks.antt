@@ -11,6 +11,7 @@ use Rattle.upc_values.specs.declared.record.ToldEnd.TheVariants as told
 use Rattle.block_layout.specs.declared.run_error.TheConstants.{DEPTH}
 use Rattle.private_store.specs.Live.{Live, called, returned}
 use Rattle.thread_steps.specs.States.{Thread, State, Res, Val, Over, Unfinished, Doing, ◌>>=◌, choose}
+use Rattle.thread_steps.specs.layer.Parts.{is_deep}
 use Rattle.thread_steps.specs.States.{skip, fault, change}
 use Rattle.thread_steps.specs.Values.{number, number_of, is_zero}
 use Rattle.thread_steps.specs.Accesses.{load, save}
@@ -18,7 +19,7 @@ use Rattle.thread_steps.specs.Pointers.{advance, in_row, outside, member, differ
 use Rattle.thread_steps.specs.Operators.{operate, apply, cast}
 use Rattle.thread_steps.specs.Library.{library, print}
 use Rattle.thread_steps.specs.Actions.{tick, notify, wait, fence, is_controlled}
-use Rattle.thread_steps.specs.Blocks.{begin_call, end_call, open_block, close_block, local_object, is_deep}
+use Rattle.thread_steps.specs.Blocks.{begin_call, end_call, open_block, close_block, local_object}
 use Rattle.thread_steps.specs.Blocks.{with_live, control, release, mine}
 use Rattle.thread_steps.proofs.Kept as k
 use Rattle.stack_code.specs.declared.instruction.CellAccess.{CellAccess}

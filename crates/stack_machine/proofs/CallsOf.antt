@@ -7,6 +7,7 @@ use Rattle.block_layout.specs.Cells.{same_cells}
 use Rattle.block_layout.specs.declared.place.SharedPtr.{SharedPtr}
 use Rattle.block_layout.specs.declared.run_error.TheConstants.{NULL_ACCESS, OUT_OF_OBJECT, PRIVATE_RANGE, CELL_TYPE}
 use Rattle.upc_values.specs.Shapes.{is_integer}
+use Rattle.upc_values.specs.layer.Parts.{unless_refused}
 use Rattle.block_layout.specs.declared.kind.Kind.{Kind}
 use Rattle.block_layout.specs.declared.kind.Shape.{Shape}
 use Rattle.upc_values.specs.declared.scalar.Scalar.{Scalar}
@@ -18,7 +19,7 @@ use Rattle.upc_values.specs.declared.library.LibraryCall.{LibraryCall}
 use Rattle.upc_values.specs.Copying as said
 use Rattle.upc_values.specs.Copying.{Area, Nowhere, In_shared, In_private}
 use Rattle.upc_values.specs.Expansion.{Expansion, Gives, Fails, Reads, Asks, Loads, Stores, bind, each_in_turn, refused_by}
-use Rattle.upc_values.specs.Expansion.{after_reply, unless_refused, nothing}
+use Rattle.upc_values.specs.Expansion.{after_reply, nothing}
 use Rattle.thread_steps.specs.layer.Ranges.{IsHeldScalar, IsNumber}
 use Rattle.thread_values.specs.layer.Asking.{IsHeldReply}
 use Rattle.upc_library.specs.layer.Wishes.{area_of}

@@ -10,6 +10,8 @@ use Rattle.block_layout.specs.declared.run_error.TheConstants.{POINTER_RANGE, OU
 use Rattle.block_layout.specs.declared.place.LocalPtr.{LocalPtr}
 use Rattle.block_layout.specs.declared.place.SharedPtr.{SharedPtr}
 use Rattle.upc_values.specs.declared.scalar.Scalar.{Scalar}
+use Rattle.upc_values.specs.layer.Parts.{unless_refused}
+use Rattle.upc_values.specs.layer.Parts as parts
 use Rattle.upc_values.specs.declared.scalar.Mark.TheVariants.{Absent}
 use Rattle.upc_values.specs.declared.action.Action.{Action}
 use Rattle.upc_values.specs.declared.action.Action.TheVariants as act
@@ -18,7 +20,7 @@ use Rattle.upc_values.specs.declared.action.Reply.TheVariants as reply
 use Rattle.upc_values.specs.Calls as calls
 use Rattle.upc_values.specs.Reductions.{Reduction, reduction, step, element_kind}
 use Rattle.upc_values.specs.Expansion.{Expansion, Gives, Fails, Reads, Asks, Loads, Stores, bind, each_in_turn, refused_by}
-use Rattle.upc_values.specs.Expansion.{unless_refused, nothing, does, barrier, gathered}
+use Rattle.upc_values.specs.Expansion.{nothing, does, barrier, gathered}
 use Rattle.upc_values.specs.Expansions as said
 use Rattle.upc_values.specs.Expansions.{Part}
 use Rattle.upc_values.specs.History.{each_thread}
@@ -99,7 +101,7 @@ module _ (threads : ℕ) (shapes : List Shape) (me : ℕ) where
       acts_refused
       ((list_any (λ x. leaves_range n x.into || leaves_range n x.from) xs, POINTER_RANGE)
       ∷ (
-        list_any (λ x. said.outside threads shapes me n x.into || said.outside threads shapes me n x.from) xs,
+        list_any (λ x. parts.outside threads shapes me n x.into || parts.outside threads shapes me n x.from) xs,
         OUT_OF_OBJECT,
       )
       ∷ (list_any (said.differ threads shapes me n) xs, CELL_TYPE)
@@ -121,7 +123,7 @@ module _ (threads : ℕ) (shapes : List Shape) (me : ℕ) where
       → ActsOnly (said.total threads shapes me op k a dst ps)
   total_acts op k a dst [] = put_acts dst a
   total_acts op k a dst (p ∷ ps) = λ v.
-      let r = step op k a (said.number_of threads shapes me v) in
+      let r = step op k a (parts.number_of threads shapes me v) in
       acts_bind (said.outcome threads shapes me r) (λ b. said.total threads shapes me op k b dst ps) (outcome_acts r)
       (λ b. total_acts op k b dst ps)
 
@@ -129,7 +131,7 @@ module _ (threads : ℕ) (shapes : List Shape) (me : ℕ) where
       → ActsOnly (said.totals threads shapes me op k a xs)
   totals_acts op k a [] = tt
   totals_acts op k a (x ∷ xs) = λ v.
-      let r = step op k a (said.number_of threads shapes me v) in
+      let r = step op k a (parts.number_of threads shapes me v) in
       acts_bind (said.outcome threads shapes me r)
       (λ b. bind (said.number_put threads shapes me x.into b) (λ u. said.totals threads shapes me op k b xs))
       (outcome_acts r)
@@ -138,7 +140,7 @@ module _ (threads : ℕ) (shapes : List Shape) (me : ℕ) where
 
   reduce_acts : (o : Option Reduction) (k : Kind) (dst : SharedPtr) (ps : List SharedPtr)
       → ActsOnly (said.reduce threads shapes me o k dst ps)
-  reduce_acts (Some op) k dst (p ∷ ps) = λ v. total_acts op k (said.number_of threads shapes me v) dst ps
+  reduce_acts (Some op) k dst (p ∷ ps) = λ v. total_acts op k (parts.number_of threads shapes me v) dst ps
   reduce_acts (Some op) k dst [] = tt
   reduce_acts None k dst [] = tt
   reduce_acts None k dst (p ∷ ps) = tt
@@ -146,10 +148,10 @@ module _ (threads : ℕ) (shapes : List Shape) (me : ℕ) where
   prefixes_acts : (o : Option Reduction) (k : Kind) (xs : List Part)
       → ActsOnly (said.reduce_prefixes threads shapes me o k xs)
   prefixes_acts (Some op) k (x ∷ xs) = λ v.
-      acts_bind (said.number_put threads shapes me x.into (said.number_of threads shapes me v))
-      (λ u. said.totals threads shapes me op k (said.number_of threads shapes me v) xs)
-      (put_acts x.into (said.number_of threads shapes me v))
-      (λ u. totals_acts op k (said.number_of threads shapes me v) xs)
+      acts_bind (said.number_put threads shapes me x.into (parts.number_of threads shapes me v))
+      (λ u. said.totals threads shapes me op k (parts.number_of threads shapes me v) xs)
+      (put_acts x.into (parts.number_of threads shapes me v))
+      (λ u. totals_acts op k (parts.number_of threads shapes me v) xs)
   prefixes_acts (Some op) k [] = tt
   prefixes_acts None k [] = tt
   prefixes_acts None k (x ∷ xs) = tt
@@ -157,19 +159,19 @@ module _ (threads : ℕ) (shapes : List Shape) (me : ℕ) where
   permuted_acts : (dst src : SharedPtr) (n : ℕ) (vs : List ℤ) → ActsOnly (permuted threads shapes me dst src n vs)
   permuted_acts dst src n vs =
       let xs = said.chosen threads shapes me dst src n vs ∷ [] in
-      acts_refused ((not (each_thread threads (λ t. said.is_at threads shapes me t vs)), LIBRARY_ARGS) ∷ [])
+      acts_refused ((not (each_thread threads (λ t. parts.is_at threads shapes me t vs)), LIBRARY_ARGS) ∷ [])
       (said.some_bytes threads shapes me n (said.move threads shapes me n xs))
       (some_acts n (said.move threads shapes me n xs) (move_acts n xs))
 
   permute_acts : (dst src perm : SharedPtr) (n : ℕ) → ActsOnly (said.permute threads shapes me dst src perm n)
   permute_acts dst src perm n =
       let go : List ℤ → Expansion (Unit {0}) = permuted threads shapes me dst src n in
-      let ps = said.permutation threads shapes me perm in
+      let ps = parts.permutation threads shapes me perm in
       let own = byte_at dst n threads (me * n) in
       let some = not (n == 0) in
       acts_refused
       ((list_any (leaves_range 4) ps || (some && leaves_range n own), POINTER_RANGE)
-      ∷ (list_any (said.outside threads shapes me 4) ps || (some && said.outside threads shapes me n own), OUT_OF_OBJECT)
+      ∷ (list_any (parts.outside threads shapes me 4) ps || (some && parts.outside threads shapes me n own), OUT_OF_OBJECT)
       ∷ (list_any (λ p. not (is_cell shapes kind.Int p)) ps || (some && said.cut threads shapes me n own), CELL_TYPE)
       ∷ [])
       (bind (gathered (said.number_at threads shapes me kind.Int) ps) go)
@@ -181,7 +183,7 @@ module _ (threads : ℕ) (shapes : List Shape) (me : ℕ) where
   cells_acts k ps go h =
       acts_refused
       ((list_any (leaves_range (kind_size k)) ps, POINTER_RANGE)
-      ∷ (list_any (said.outside threads shapes me (kind_size k)) ps, OUT_OF_OBJECT)
+      ∷ (list_any (parts.outside threads shapes me (kind_size k)) ps, OUT_OF_OBJECT)
       ∷ (list_any (λ p. not (is_cell shapes k p)) ps, CELL_TYPE)
       ∷ [])
       go h
@@ -236,7 +238,7 @@ module _ (threads : ℕ) (shapes : List Shape) (me : ℕ) where
 
   total_left_acts : (l : TotalLeft) → ActsOnly (total_rest l)
   total_left_acts l = λ v.
-      let r = joined l.op l.kind l.so_far (said.number_of 0 [] 0 v) in
+      let r = joined l.op l.kind l.so_far (parts.number_of 0 [] 0 v) in
       acts_bind (said.outcome 0 [] 0 r) (λ b. said.total 0 [] 0 l.op l.kind b l.dst l.elements) (outcome_acts 0 [] 0 r)
       (λ b. total_acts 0 [] 0 l.op l.kind b l.dst l.elements)
 
@@ -247,7 +249,7 @@ module _ (threads : ℕ) (shapes : List Shape) (me : ℕ) where
 
   prefixes_left_acts : (l : PrefixesLeft) → ActsOnly (prefixes_rest l)
   prefixes_left_acts l = λ v.
-      let r = joined l.op l.kind l.so_far (said.number_of 0 [] 0 v) in
+      let r = joined l.op l.kind l.so_far (parts.number_of 0 [] 0 v) in
       acts_bind (said.outcome 0 [] 0 r) (λ b. prefixes_put l b) (outcome_acts 0 [] 0 r) (λ b. prefixes_put_acts l b)
 
   left_acts : (w : Work) → ActsOnly (work_rest threads shapes me w)

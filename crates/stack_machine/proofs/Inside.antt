@@ -20,9 +20,10 @@ use Rattle.upc_values.specs.Expansion.{Expansion, Gives, Fails, Reads, Asks, Loa
 use Rattle.private_store.specs.Live.{Live}
 use Rattle.private_store.specs.Cells.{loaded, stored}
 use Rattle.thread_steps.specs.States.{Thread, Res, bind, give, valued}
+use Rattle.thread_steps.specs.layer.Parts.{with_store}
 use Rattle.thread_steps.specs.Values.{kept, scalar_of}
 use Rattle.thread_steps.specs.Actions.{ask, answered}
-use Rattle.thread_steps.specs.Accesses.{run, expanded, with_store}
+use Rattle.thread_steps.specs.Accesses.{run, expanded}
 use Rattle.stack_code.specs.layer.Codes.{Codes, thread_of}
 use Rattle.stack_code.specs.layer.Steps.{Conf, At, Halt, conf_of, further, steps}
 use Rattle.stack_code.specs.layer.Outcomes.{HasEnded, CodeMeans, beginning}

@@ -11,8 +11,9 @@ use Rattle.upc_values.specs.declared.scalar.Value.TheVariants as value
 use Rattle.private_store.specs.Live.{local_number}
 use Rattle.private_store.specs.Cells.{IsPrivate}
 use Rattle.thread_steps.specs.States.{Thread, State, Res, Val, bind}
+use Rattle.thread_steps.specs.layer.Parts.{pointer_to}
 use Rattle.thread_steps.specs.Accesses.{save_private}
-use Rattle.thread_steps.specs.Blocks.{local_object, pointer_to}
+use Rattle.thread_steps.specs.Blocks.{local_object}
 use Rattle.stack_code.specs.declared.instruction.CellAccess.{CellAccess}
 use Rattle.stack_code.specs.layer.Steps.{received}
 use Rattle.stack_machine.specs.declared.wish.Halt.{Halt}

@@ -6,6 +6,7 @@ ghost use Rattle.upc_values.specs.declared.action.Action.{Action};
 ghost use Rattle.private_store.specs.Live.{local_number};
 ghost use Rattle.private_store.specs.Cells.{IsPrivate};
 ghost use Rattle.thread_steps.specs.Blocks as blocks;
+ghost use Rattle.thread_steps.specs.layer.Parts as parts;
 ghost use Rattle.thread_steps.specs.layer.Ranges.{IsHeld};
 ghost use Rattle.thread_steps.specs.States.{Thread, Val};
 ghost use Rattle.stack_code.specs.layer.Steps.{received};
@@ -26,7 +27,7 @@ const MOST_NAMES: usize = 4_294_967_295;
 impl Progress {
     // The pointer to a local object.
     fn local_pointer(&self, n: u32) -> LocalPtr
-        ensures value { blocks.pointer_to (local_number n self.now.store) ≡ Value.Local result }
+        ensures value { parts.pointer_to (local_number n self.now.store) ≡ Value.Local result }
         ensures private { IsPrivate result }
     {
         match self.store.local(n) {

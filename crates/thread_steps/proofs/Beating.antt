@@ -24,11 +24,13 @@ use Rattle.upc_values.specs.Records.{beats, is_beat}
 use Rattle.upc_values.proofs.Records.{beats-push}
 use Rattle.private_store.specs.Live.{Live, called, returned}
 use Rattle.thread_steps.specs.States.{Thread, State, Res, Val, Over, Unfinished, bind, Doing, ◌>>=◌, ◌>>◌}
+use Rattle.thread_steps.specs.layer.Parts.{is_deep}
+use Rattle.thread_steps.specs.layer.Parts as parts
 use Rattle.thread_steps.specs.States.{give, skip, know, change, choose, over, fault, fault_if}
 use Rattle.thread_steps.specs.Values.{scalar_of}
 use Rattle.thread_steps.specs.Actions as a
 use Rattle.thread_steps.specs.Accesses as x
-use Rattle.thread_steps.specs.Blocks.{begin_call, end_call, is_deep, with_live}
+use Rattle.thread_steps.specs.Blocks.{begin_call, end_call, with_live}
 use Rattle.thread_steps.specs.Library as l
 use Rattle.thread_steps.proofs.Depths.{depth, SameDepth, called_depth, returned_depth, not_deep}
 use Rattle.thread_steps.proofs.Kept.{IsBasic, IsKept, Ignores, IsOwn, IsPlain, basic_choose_kept, basic_fault_if_kept}
@@ -95,10 +97,10 @@ own_beating n d A (Misfit k) own = absurd own
 own_beating n d A (Ended v) own = absurd own
 
 store_beating : (n d : ℕ) (at : Place) (f : Live → Result Live ℕ) → ((s : Live) → SameDepth s (f s))
-    → Beating n d (Unit {0}) (λ σ. x.with_store at σ (f σ.store))
+    → Beating n d (Unit {0}) (λ σ. parts.with_store at σ (f σ.store))
 store_beating n d at f kept = record { by = λ σ h. on_store (f σ.store) σ h (kept σ.store) }
   where
-    on_store : (r : Result Live ℕ) (σ : State) → Beaten d σ → SameDepth σ.store r → Ends d (x.with_store at σ r)
+    on_store : (r : Result Live ℕ) (σ : State) → Beaten d σ → SameDepth σ.store r → Ends d (parts.with_store at σ r)
     on_store (Ok s) σ h k = record { beaten = h.beaten; deep = k ∙ h.deep }
     on_store (Err code) σ h k = tt
 
@@ -151,21 +153,21 @@ module _ (τ : Thread) where
 
   beat_beating : (d : ℕ) (t : Bool) (σ : State) → ((σ.ticks + 1) % 1024 == 0) ≡ t → Beaten d σ
       → Ends d
-      (bind (choose t (do a.ask τ None act.Beat; skip) skip (a.with_tick σ))
+      (bind (choose t (do a.ask τ None act.Beat; skip) skip (parts.with_tick σ))
       (λ _. choose (σ.ticks + 1 == τ.budget) (over OutOfTicks) skip))
   unfolding a.ask
   beat_beating d false σ e h =
-      spent_beating d (σ.ticks + 1 == τ.budget) (a.with_tick σ)
+      spent_beating d (σ.ticks + 1 == τ.budget) (parts.with_tick σ)
       (record { beaten = between σ.ticks (beats σ.actions) e h.beaten; deep = h.deep })
   beat_beating d true σ e h = by_replies σ.replies
     where
       by_fit : (t : Bool) (r : Reply) (rest : List Reply)
           → Ends d
-          (bind (bind (a.answered t act.Beat r rest (a.with_tick σ)) (λ _. skip))
+          (bind (bind (a.answered t act.Beat r rest (parts.with_tick σ)) (λ _. skip))
           (λ _. choose (σ.ticks + 1 == τ.budget) (over OutOfTicks) skip))
       by_fit true r rest =
           spent_beating d (σ.ticks + 1 == τ.budget)
-          (record (a.with_tick σ) { actions = σ.actions ++ act.Beat ∷ []; replies = rest })
+          (record (parts.with_tick σ) { actions = σ.actions ++ act.Beat ∷ []; replies = rest })
           (record {
             beaten = behind σ.ticks (beats σ.actions) e h.beaten ∙ sym (beats-push σ.actions);
             deep = h.deep;
@@ -174,7 +176,7 @@ module _ (τ : Thread) where
 
       by_replies : (rs : List Reply)
           → Ends d
-          (bind (bind (a.answered_from τ None act.Beat rs (a.with_tick σ)) (λ _. skip))
+          (bind (bind (a.answered_from τ None act.Beat rs (parts.with_tick σ)) (λ _. skip))
           (λ _. choose (σ.ticks + 1 == τ.budget) (over OutOfTicks) skip))
       by_replies [] = due σ.ticks (beats σ.actions) e h.beaten
       by_replies (r ∷ rest) = by_fit (fits τ.threads τ.shapes None act.Beat r) r rest
@@ -208,8 +210,8 @@ module _ (τ : Thread) where
   wait_beating n d at mark =
       then_beating n d (Unit {0}) (Unit {0}) (fault_if a.is_controlled BARRIER_IN_FORALL at) _
       (unless_beating n d a.is_controlled BARRIER_IN_FORALL at (λ σ as_ rs. refl)) (λ u.
-      then_beating n d (Unit {0}) (Unit {0}) (fault_if a.is_not_notified PHASE_ORDER at) _
-      (unless_beating n d a.is_not_notified PHASE_ORDER at (λ σ as_ rs. refl)) (λ v.
+      then_beating n d (Unit {0}) (Unit {0}) (fault_if parts.is_not_notified PHASE_ORDER at) _
+      (unless_beating n d parts.is_not_notified PHASE_ORDER at (λ σ as_ rs. refl)) (λ v.
       then_beating n d (Unit {0}) (Unit {0}) (a.does τ at (act.Wait mark)) _
       (does_beating n d at (act.Wait mark) refl) (λ w.
       noted_beating n d false)))

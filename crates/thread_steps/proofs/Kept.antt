@@ -29,6 +29,7 @@ use Rattle.upc_values.specs.Expansion.{Expansion, Gives, Fails, Reads, Asks, Loa
 use Rattle.private_store.specs.Live.{Live, entered, left, controls}
 use Rattle.private_store.specs.Cells.{loaded, stored}
 use Rattle.thread_steps.specs.declared.cast.CastTo.{CastTo}
+use Rattle.thread_steps.specs.layer.Parts as parts
 use Rattle.thread_steps.specs.declared.elements.Elements.{Elements}
 use Rattle.thread_steps.specs.States.{Thread, State, Res, Doing, ◌>>=◌, ◌>>◌, give, skip, know, change, choose}
 use Rattle.thread_steps.specs.States.{over, fault, fault_if, valued, Unfinished}
@@ -71,7 +72,7 @@ pub record IsBasic (P : Property) : Type 1 where
   pub of_bind : (n d : ℕ) (A B : Type 0) (m : Doing A) (f : A → Doing B) → P n d A m → ((v : A) → P n d B (f v))
       → P n d B (m >>= f)
   pub of_store : (n d : ℕ) (at : Place) (f : Live → Result Live ℕ) → ((s : Live) → SameDepth s (f s))
-      → P n d (Unit {0}) (λ σ. x.with_store at σ (f σ.store))
+      → P n d (Unit {0}) (λ σ. parts.with_store at σ (f σ.store))
 
 module _ (P : Property) (H : IsBasic P) (n d : ℕ) where
   basic_first : {A B : Type 0} (m : Doing A) (f : A → Doing B) → P n d A m → ((v : A) → P n d B (f v))
@@ -95,7 +96,7 @@ module _ (P : Property) (H : IsBasic P) (n d : ℕ) where
   basic_valued_kept {A = A} at (Ok v) = H.of_give n d A v
   basic_valued_kept {A = A} at (Err code) = H.of_over n d A (told.Fault code at) tt
 
-  pub basic_unless_refused_kept : (at : Place) (r : Reply) → P n d (Unit {0}) (a.unless_refused at r)
+  pub basic_unless_refused_kept : (at : Place) (r : Reply) → P n d (Unit {0}) (parts.unless_refused at r)
   basic_unless_refused_kept at reply.Done = basic_skip_kept
   basic_unless_refused_kept at (reply.Value v) = basic_skip_kept
   basic_unless_refused_kept at (reply.Flag v) = basic_skip_kept
@@ -140,7 +141,7 @@ module _ (τ : Thread) (P : Property) (K : IsAsking τ P) (n d : ℕ) where
       → P n d (Unit {0}) (x.save_private kind at q v)
   asked_save_private_kept kind at q v = basic_save_private_kept P K.basic n d kind at q v
 
-  asked_unless_refused_kept : (at : Place) (r : Reply) → P n d (Unit {0}) (a.unless_refused at r)
+  asked_unless_refused_kept : (at : Place) (r : Reply) → P n d (Unit {0}) (parts.unless_refused at r)
   asked_unless_refused_kept at r = basic_unless_refused_kept P K.basic n d at r
 
   asked_does_kept : (at : Place) (action : Action) → P n d (Unit {0}) (a.does τ at action)
@@ -162,8 +163,8 @@ module _ (τ : Thread) (P : Property) (K : IsAsking τ P) (n d : ℕ) where
   asked_wait_kept at mark =
       asked_first (fault_if a.is_controlled BARRIER_IN_FORALL at) _
       (asked_fault_if_kept a.is_controlled BARRIER_IN_FORALL at (λ σ as_ rs. refl)) (λ u.
-      asked_first (fault_if a.is_not_notified PHASE_ORDER at) _
-      (asked_fault_if_kept a.is_not_notified PHASE_ORDER at (λ σ as_ rs. refl)) (λ v.
+      asked_first (fault_if parts.is_not_notified PHASE_ORDER at) _
+      (asked_fault_if_kept parts.is_not_notified PHASE_ORDER at (λ σ as_ rs. refl)) (λ v.
       asked_first (a.does τ at (act.Wait mark)) _ (asked_does_kept at (act.Wait mark)) (λ w.
       K.of_notified n d false)))
 
@@ -211,12 +212,12 @@ module _ (τ : Thread) (P : Property) (K : IsAsking τ P) (n d : ℕ) where
       (λ v. K.basic.of_give n d Value (value.Scalar v))))
 
   -- A tick, if the count of ticks and their end do.
-  pub asked_tick_kept : P n d (Unit {0}) (change a.with_tick) → P n d (Unit {0}) (over told.OutOfTicks)
+  pub asked_tick_kept : P n d (Unit {0}) (change parts.with_tick) → P n d (Unit {0}) (over told.OutOfTicks)
       → P n d (Unit {0}) (a.tick τ)
   unfolding a.tick
   asked_tick_kept counts ends =
-      asked_first (change a.with_tick) _ counts (λ u.
-      asked_first (know a.ticks_of) _ (K.basic.of_know n d ℕ a.ticks_of (λ σ as_ rs. refl)) (λ count.
+      asked_first (change parts.with_tick) _ counts (λ u.
+      asked_first (know parts.ticks_of) _ (K.basic.of_know n d ℕ parts.ticks_of (λ σ as_ rs. refl)) (λ count.
       asked_first (choose (count % 1024 == 0) (a.ask τ None act.Beat >> skip) skip) _
       (asked_choose_kept (count % 1024 == 0) (a.ask τ None act.Beat >> skip) skip
       (asked_first (a.ask τ None act.Beat) _ (K.of_ask n d None act.Beat) (λ r. asked_skip_kept)) asked_skip_kept) (λ v.
@@ -361,8 +362,8 @@ module _ (τ : Thread) (P : Property) (K : IsKept τ P) (n d : ℕ) where
   pub open_kept : (from : ℕ) (shapes : List Shape) (at : Place) → P n d (Unit {0}) (b.open_block from shapes at)
   unfolding b.open_block
   open_kept from shapes at =
-      first (fault_if (b.is_too_large shapes) PRIVATE_SPACE at) _
-      (fault_if_kept (b.is_too_large shapes) PRIVATE_SPACE at (λ σ as_ rs. refl)) (λ u.
+      first (fault_if (parts.is_too_large shapes) PRIVATE_SPACE at) _
+      (fault_if_kept (parts.is_too_large shapes) PRIVATE_SPACE at (λ σ as_ rs. refl)) (λ u.
       K.basic.of_store n d at (λ s. Ok (entered from shapes s)) (λ s. refl))
 
   pub close_kept : (at : Place) → P n d (Unit {0}) b.close_block
@@ -375,11 +376,11 @@ module _ (τ : Thread) (P : Property) (K : IsKept τ P) (n d : ℕ) where
 
   pub control_kept : (at : Place) → P n d (Unit {0}) b.control
   unfolding b.control
-  control_kept at = K.basic.of_store n d at (λ s. Ok (b.one_more s)) (λ s. recounted_depth (suc (controls s)) s)
+  control_kept at = K.basic.of_store n d at (λ s. Ok (parts.one_more s)) (λ s. recounted_depth (suc (controls s)) s)
 
   pub release_kept : (at : Place) → P n d (Unit {0}) b.release
   unfolding b.release
-  release_kept at = K.basic.of_store n d at (λ s. Ok (b.one_less s)) (λ s. recounted_depth (pred (controls s)) s)
+  release_kept at = K.basic.of_store n d at (λ s. Ok (parts.one_less s)) (λ s. recounted_depth (pred (controls s)) s)
 
   pub mine_kept : (at : Place) (q : Value) → P n d Value (b.mine τ at q)
   unfolding b.mine

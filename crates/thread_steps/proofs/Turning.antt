@@ -24,13 +24,15 @@ use Rattle.upc_values.specs.Expansion.{Expansion, Gives, Fails, Reads, Asks, Loa
 use Rattle.private_store.specs.Live.{Live, called, returned}
 use Rattle.private_store.specs.Cells.{loaded, stored}
 use Rattle.thread_steps.specs.States.{Thread, State, Res, Val, Over, Unfinished, bind, Doing, ◌>>=◌, ◌>>◌}
+use Rattle.thread_steps.specs.layer.Parts.{turned_by, is_deep}
+use Rattle.thread_steps.specs.layer.Parts as parts
 use Rattle.thread_steps.specs.States.{give, skip, know, change, choose, over, fault, fault_if, valued}
 use Rattle.thread_steps.specs.Values.{kept, scalar_of}
 use Rattle.thread_steps.specs.Actions as a
 use Rattle.thread_steps.specs.Accesses as x
-use Rattle.thread_steps.specs.Blocks.{begin_call, end_call, is_deep, with_live}
+use Rattle.thread_steps.specs.Blocks.{begin_call, end_call, with_live}
 use Rattle.thread_steps.specs.Library as l
-use Rattle.thread_steps.specs.layer.Fronts.{turned, turned_by, IsInTurn}
+use Rattle.thread_steps.specs.layer.Fronts.{turned, IsInTurn}
 use Rattle.thread_steps.proofs.Depths.{depth, SameDepth, stored_depth, called_depth, returned_depth, not_deep}
 use Rattle.thread_steps.proofs.Kept.{IsBasic, IsKept, IsOwn, IsPlain}
 use Rattle.thread_steps.proofs.Orderly.{IsOrderly, Turns, library_orderly}
@@ -123,15 +125,15 @@ valued_steps d b v at (Ok y) = give_steps d b v y
 valued_steps d b v at (Err code) = fault_steps d b v b v code at
 
 store_steps : (d : ℕ) (b v : Bool) (at : Place) (f : Live → Result Live ℕ) → ((s : Live) → SameDepth s (f s))
-    → Steps (Unit {0}) d b v b v (λ σ. x.with_store at σ (f σ.store))
+    → Steps (Unit {0}) d b v b v (λ σ. parts.with_store at σ (f σ.store))
 store_steps d b v at f kept = record { by = λ σ h. on_store (f σ.store) σ h (kept σ.store) }
   where
     on_store : (r : Result Live ℕ) (σ : State) → Stands d b v σ → SameDepth σ.store r
-        → Leads d b v (x.with_store at σ r)
+        → Leads d b v (parts.with_store at σ r)
     on_store (Ok s) σ h k = record { turn = h.turn; noted = h.noted; deep = k ∙ h.deep }
     on_store (Err code) σ h k = (b, h.turn)
 
-unless_steps : (d : ℕ) (b v : Bool) (at : Place) (r : Reply) → Steps (Unit {0}) d b v b v (a.unless_refused at r)
+unless_steps : (d : ℕ) (b v : Bool) (at : Place) (r : Reply) → Steps (Unit {0}) d b v b v (parts.unless_refused at r)
 unless_steps d b v at reply.Done = give_steps d b v tt
 unless_steps d b v at (reply.Value y) = give_steps d b v tt
 unless_steps d b v at (reply.Flag y) = give_steps d b v tt
@@ -273,9 +275,9 @@ module _ (τ : Thread) where
   tick_in_turn : (n d : ℕ) → InTurn n d (Unit {0}) (a.tick τ)
   unfolding a.tick
   tick_in_turn n d =
-      then_in_turn n d (Unit {0}) (Unit {0}) (change a.with_tick) _
+      then_in_turn n d (Unit {0}) (Unit {0}) (change parts.with_tick) _
       (record { by = λ σ h. record { turn = h.turn; noted = refl; deep = h.deep } }) (λ u.
-      then_in_turn n d ℕ (Unit {0}) (know a.ticks_of) _ (record { by = λ σ h. h }) (λ count.
+      then_in_turn n d ℕ (Unit {0}) (know parts.ticks_of) _ (record { by = λ σ h. h }) (λ count.
       then_in_turn n d (Unit {0}) (Unit {0}) (choose (count % 1024 == 0) (do a.ask τ None act.Beat; skip) skip) _
       (beat_in_turn n d (count % 1024 == 0)) (λ v. spent_in_turn n d (count == τ.budget))))
 

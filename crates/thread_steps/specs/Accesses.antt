@@ -29,29 +29,22 @@ use Rattle.thread_steps.specs.Actions.{ask}
 abbrev pub into_shared : ObjectRef → ℕ → ℤ → SharedPtr
 into_shared object thread offset = record { object = object; thread = thread; phase = 0; offset = offset }
 
--- The shape of an object's elements; where the program does not have it, which is the case for no object of a typed
--- program, a byte without cells.
-abbrev pub shape_or_byte : Option Shape → Shape
-shape_or_byte (Some s) = s
-shape_or_byte None = record { size = 1; cells = [] }
-
--- The state with this store, or the end of the thread by this run error.
-abbrev pub with_store : Place → State → Result Live ℕ → Res (Unit {0})
-with_store at σ (Ok s) = Val tt (record σ { store = s })
-with_store at σ (Err code) = fault code at σ
-
 -- The read of a cell of a private object (C99 6.5).
 abbrev pub load_private : Kind → Place → LocalPtr → Doing Value
 load_private kind at p = λ σ. valued at (loaded p kind σ.store) σ
 
--- The write of a cell of a private object, which keeps a value that fits its kind (C99 6.5.16).
+-- The write of a cell of a private object, which keeps a value that fits its kind, or the end of the thread by a run
+-- error (C99 6.5.16).
 abbrev pub save_private : Kind → Place → LocalPtr → Value → Doing (Unit {0})
-save_private kind at p v = λ σ. with_store at σ (stored p kind (kept kind v) σ.store)
+save_private kind at p v = λ σ.
+    elim (stored p kind (kept kind v) σ.store) [ Ok s ↦ Val tt (record σ { store = s }) | Err code ↦ fault code at σ ]
 
 module _ (τ : Thread) where
-  -- The location of the cell of a kind at a pointer-to-shared, or the first of its run errors.
+  -- The location of the cell of a kind at a pointer-to-shared, or the first of its run errors. Where the program has
+  -- no such shape of elements, which is the case for no object of a typed program, it is a byte without cells.
   abbrev pub cell : Kind → SharedPtr → Result Loc ℕ
-  cell kind p = cell_at p (shape_or_byte (shape_at τ.shapes p)) kind τ.threads
+  cell kind p =
+      cell_at p (elim (shape_at τ.shapes p) [ Some s ↦ s | None ↦ record { size = 1; cells = [] } ]) kind τ.threads
 
   -- The read of a location, strict or relaxed (UPC 6.5.1.1).
   abbrev pub read : Kind → Bool → Loc → Doing Scalar

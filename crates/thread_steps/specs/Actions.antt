@@ -23,21 +23,9 @@ is_controlled σ = not (controls σ.store == 0)
 abbrev pub is_notified : State → Bool
 is_notified σ = σ.notified
 
--- The thread has made no notify, or has waited since (UPC 6.6.1).
-abbrev pub is_not_notified : State → Bool
-is_not_notified σ = not σ.notified
-
--- The ticks that the thread has counted.
-abbrev pub ticks_of : State → ℕ
-ticks_of σ = σ.ticks
-
 -- The state in which the thread has notified and not yet waited, or has not (UPC 6.6.1).
 abbrev pub with_notified : Bool → State → State
 with_notified b σ = record σ { notified = b }
-
--- The state with one more tick.
-abbrev pub with_tick : State → State
-with_tick σ = record σ { ticks = σ.ticks + 1 }
 
 -- A reply that fits the action answers it; else the thread ends, and the action is not done.
 abbrev pub answered : Bool → Action → Reply → List Reply → Doing Reply
@@ -49,11 +37,6 @@ abbrev pub answered_from : Thread → Option Kind → Action → List Reply → 
 answered_from τ kind a [] = over (Wants a)
 answered_from τ kind a (r ∷ rest) = answered (fits τ.threads τ.shapes kind a r) a r rest
 
--- A reply that refuses ends the thread by its run error, and any other lets it go on.
-abbrev pub unless_refused : Place → Reply → Doing (Unit {0})
-unless_refused at (Refused code) = fault code at
-unless_refused at r = skip
-
 module _ (τ : Thread) where
   -- One action, answered by the next reply. A read is of a cell of that kind.
   unfoldable pub ask : Option Kind → Action → Doing Reply
@@ -63,13 +46,13 @@ module _ (τ : Thread) where
   abbrev pub does : Place → Action → Doing (Unit {0})
   does at a = do
     r ← ask None a
-    unless_refused at r
+    elim r [ Refused code ↦ fault code at | _ ↦ skip ]
 
   -- One tick: a Beat at each multiple of 1,024, and the end where the budget is reached.
   unfoldable pub tick : Doing (Unit {0})
   tick = do
-    change with_tick
-    n ← know ticks_of
+    change (λ σ. record σ { ticks = σ.ticks + 1 })
+    n ← know (λ σ. σ.ticks)
     choose (n % 1024 == 0) (do ask None act.Beat; skip) skip
     choose (n == τ.budget) (over OutOfTicks) skip
 
@@ -86,7 +69,7 @@ module _ (τ : Thread) where
   unfoldable pub wait : Place → Mark → Doing (Unit {0})
   wait at mark = do
     fault_if is_controlled BARRIER_IN_FORALL at
-    fault_if is_not_notified PHASE_ORDER at
+    fault_if (λ σ. not σ.notified) PHASE_ORDER at
     does at (act.Wait mark)
     change (with_notified false)
 

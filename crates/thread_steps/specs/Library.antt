@@ -48,20 +48,17 @@ met_with (Reduce k) shape args = with_element k args
 met_with (PrefixReduce k) shape args = with_element k args
 met_with call shape args = args
 
--- The arguments are of the types of the parameters of the collective call with this number, if there is one.
-abbrev pub are_met : Option ℕ → List Scalar → Bool
-are_met (Some n) args = is_call (call_of n args)
-are_met None args = true
-
 -- The program has the shape of the elements that upc_all_alloc makes; any other call needs none.
 abbrev pub has_shape : List Shape → LibraryCall → (shape : ℕ) → Bool
 has_shape shapes AllAlloc shape = is_some (slice_get shapes shape)
 has_shape shapes call shape = true
 
--- Whether all threads may meet with these arguments. In a typed program they always may.
+-- Whether all threads may meet with these arguments, which are of the types of the parameters of a collective call. In
+-- a typed program they always may.
 abbrev pub is_formed : List Shape → LibraryCall → (shape : ℕ) → List Value → Bool
 is_formed shapes call shape args =
-    are_met (meet_number call) (scalars (met_with call shape args)) && has_shape shapes call shape
+    elim (meet_number call) [ Some n ↦ is_call (call_of n (scalars (met_with call shape args))) | None ↦ true ]
+    && has_shape shapes call shape
 
 module _ (τ : Thread) where
   -- A call of the library does what its definition says; a collective one begins only where the thread may meet

@@ -11,7 +11,7 @@ use Rattle.upc_values.specs.declared.scalar.Value.TheVariants as value
 use Rattle.upc_values.specs.declared.library.LibraryCall.{LibraryCall}
 use Rattle.upc_values.specs.declared.library.LibraryCall.TheVariants as call
 use Rattle.upc_values.specs.Scalars.{zero}
-use Rattle.upc_values.specs.LibraryCalls.{library_call, meet_number, given_by, as_int}
+use Rattle.upc_values.specs.LibraryCalls.{library_call, meet_number, given_by}
 use Rattle.thread_steps.specs.States.{Thread, State, Val, bind, give, skip, choose, valued}
 use Rattle.thread_steps.specs.Actions.{meet, exit}
 use Rattle.thread_steps.specs.Accesses.{run, expanded}
@@ -31,7 +31,7 @@ gives τ at σ reply.Done res e =
 gives τ at σ (reply.Value v) res e =
     let same : Ok (value.Scalar v) ≡ res = cc in ap (λ (x : Result Value ℕ). valued at x σ) same
 gives τ at σ (reply.Flag b) res e =
-    let same : Ok (value.Scalar (as_int (truth b))) ≡ res = cc in ap (λ (x : Result Value ℕ). valued at x σ) same
+    let same : Ok (value.Scalar (Int (converted kind.Int (truth b)))) ≡ res = cc in ap (λ (x : Result Value ℕ). valued at x σ) same
 gives τ at σ (reply.Refused code) res e =
     let same : Err code ≡ res = cc in ap (λ (x : Result Value ℕ). valued at x σ) same
 

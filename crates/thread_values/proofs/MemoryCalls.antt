@@ -1,5 +1,5 @@
 -- Memory calls by their arguments.
-use Rattle.std.proofs.Common.{◌≡◌, ℕ, pos, true, false, List, [], ◌∷◌, Option, refl, sym, ap, ◌∙◌}
+use Rattle.std.proofs.Common.{◌≡◌, ℕ, pos, true, false, List, [], ◌∷◌, Option, None, refl, sym, ap, ◌∙◌}
 use Rattle.std.specs.Prelude.{unsigned_abs, is_some}
 use Rattle.block_layout.specs.declared.kind.Shape.{Shape}
 use Rattle.upc_values.specs.declared.scalar.Scalar.TheVariants.{Int, Shared, Lock}
@@ -9,6 +9,9 @@ use Rattle.upc_values.specs.declared.library.LibraryCall.{LibraryCall}
 use Rattle.upc_values.specs.declared.library.LibraryCall.TheVariants as call
 use Rattle.upc_values.specs.LibraryCalls as calls
 use Rattle.upc_values.specs.LibraryCalls.{library_call, valued, meet_number}
+use Rattle.upc_values.specs.Copying.{Area, copy, set}
+use Rattle.integers.specs.Integers.{converted}
+use Rattle.block_layout.specs.declared.kind.Kind.TheVariants as kind
 use Rattle.upc_text.specs.declared.place.Place.{Place}
 use Rattle.thread_steps.specs.States.{Thread, State, bind, give, skip, choose}
 use Rattle.thread_steps.specs.Actions.{meet, exit}
@@ -56,13 +59,17 @@ module _ (threads : ℕ) (shapes : List Shape) (me shape : ℕ) (private : ℕ �
   Means c args =
       library_call threads shapes me private c shape args ≡ valued (copying_of threads shapes private c args)
 
+  -- The shape of the private object in which an area lies.
+  abbrev there : Area → Option Shape
+  there a = calls.private_shape threads shapes me private a
+
   memcpy_means : (args : List Value) → Means call.Memcpy args
   memcpy_means [] = refl
   memcpy_means (a ∷ []) = refl
   memcpy_means (a ∷ b ∷ []) = refl
   memcpy_means (a ∷ b ∷ value.Scalar (Int n) ∷ []) =
-      sym (ap (λ d. calls.memcpy threads shapes me private d (area_of (side_in b)) (unsigned_abs n)) (area_is a)
-      ∙ ap (λ s. calls.memcpy threads shapes me private (calls.area_of a) s (unsigned_abs n)) (area_is b))
+      sym (ap (λ d. valued (copy threads shapes None d (area_of (side_in b)) (unsigned_abs n))) (area_is a)
+      ∙ ap (λ s. valued (copy threads shapes None (calls.area_of a) s (unsigned_abs n))) (area_is b))
   memcpy_means (a ∷ b ∷ value.Scalar (Shared n) ∷ []) = refl
   memcpy_means (a ∷ b ∷ value.Scalar (Lock n) ∷ []) = refl
   memcpy_means (a ∷ b ∷ value.Local n ∷ []) = refl
@@ -76,8 +83,8 @@ module _ (threads : ℕ) (shapes : List Shape) (me shape : ℕ) (private : ℕ �
   memget_means (a ∷ []) = refl
   memget_means (a ∷ b ∷ []) = refl
   memget_means (a ∷ b ∷ value.Scalar (Int n) ∷ []) =
-      sym (ap (λ d. calls.memget threads shapes me private d (area_of (side_in b)) (unsigned_abs n)) (area_is a)
-      ∙ ap (λ s. calls.memget threads shapes me private (calls.area_of a) s (unsigned_abs n)) (area_is b))
+      sym (ap (λ d. valued (copy threads shapes (there d) d (area_of (side_in b)) (unsigned_abs n))) (area_is a)
+      ∙ ap (λ s. valued (copy threads shapes (there (calls.area_of a)) (calls.area_of a) s (unsigned_abs n))) (area_is b))
   memget_means (a ∷ b ∷ value.Scalar (Shared n) ∷ []) = refl
   memget_means (a ∷ b ∷ value.Scalar (Lock n) ∷ []) = refl
   memget_means (a ∷ b ∷ value.Local n ∷ []) = refl
@@ -91,8 +98,8 @@ module _ (threads : ℕ) (shapes : List Shape) (me shape : ℕ) (private : ℕ �
   memput_means (a ∷ []) = refl
   memput_means (a ∷ b ∷ []) = refl
   memput_means (a ∷ b ∷ value.Scalar (Int n) ∷ []) =
-      sym (ap (λ d. calls.memput threads shapes me private d (area_of (side_in b)) (unsigned_abs n)) (area_is a)
-      ∙ ap (λ s. calls.memput threads shapes me private (calls.area_of a) s (unsigned_abs n)) (area_is b))
+      sym (ap (λ d. valued (copy threads shapes (there (area_of (side_in b))) d (area_of (side_in b)) (unsigned_abs n))) (area_is a)
+      ∙ ap (λ s. valued (copy threads shapes (there s) (calls.area_of a) s (unsigned_abs n))) (area_is b))
   memput_means (a ∷ b ∷ value.Scalar (Shared n) ∷ []) = refl
   memput_means (a ∷ b ∷ value.Scalar (Lock n) ∷ []) = refl
   memput_means (a ∷ b ∷ value.Local n ∷ []) = refl
@@ -109,7 +116,7 @@ module _ (threads : ℕ) (shapes : List Shape) (me shape : ℕ) (private : ℕ �
   memset_means (a ∷ value.Scalar (Lock b) ∷ []) = refl
   memset_means (a ∷ value.Local b ∷ []) = refl
   memset_means (a ∷ value.Scalar (Int b) ∷ value.Scalar (Int n) ∷ []) =
-      sym (ap (λ d. calls.memset threads shapes me private d b (unsigned_abs n)) (area_is a))
+      sym (ap (λ d. valued (set threads shapes None d (unsigned_abs (converted kind.UChar b)) (unsigned_abs n))) (area_is a))
   memset_means (a ∷ value.Scalar (Int b) ∷ value.Scalar (Shared n) ∷ []) = refl
   memset_means (a ∷ value.Scalar (Int b) ∷ value.Scalar (Lock n) ∷ []) = refl
   memset_means (a ∷ value.Scalar (Int b) ∷ value.Local n ∷ []) = refl

@@ -11,7 +11,7 @@ use Rattle.upc_values.specs.declared.scalar.Value.{Value}
 use Rattle.upc_values.specs.declared.scalar.Value.TheVariants as value
 use Rattle.upc_values.specs.Calls.{call_of}
 use Rattle.upc_values.specs.Expansion.{Expansion, Gives}
-use Rattle.upc_values.specs.LibraryCalls.{library_call, global_alloc, all_alloc, alloc, scalars}
+use Rattle.upc_values.specs.LibraryCalls.{library_call, allocation, all_alloc, scalars}
 use Rattle.upc_values.specs.Scalars as scalar
 use Rattle.thread_steps.specs.Library.{is_call, is_formed}
 use Rattle.thread_values.specs.code.Parts.{two_sizes, one_size}
@@ -26,7 +26,7 @@ with_one None go = Gives scalar.zero
 
 module _ (threads : ℕ) (shapes : List Shape) (me : ℕ) (private : ℕ → Option Shape) (shape : ℕ) where
   global-sized : (args : List Value) → library_call threads shapes me private call.GlobalAlloc shape args
-      ≡ with_two (two_sizes args) (global_alloc threads shapes me private shape)
+      ≡ with_two (two_sizes args) (allocation threads shapes me private None shape)
   global-sized [] = refl
   global-sized (value.Scalar (Int n) ∷ []) = refl
   global-sized (value.Scalar (Shared n) ∷ []) = refl
@@ -70,7 +70,7 @@ module _ (threads : ℕ) (shapes : List Shape) (me : ℕ) (private : ℕ → Opt
   all-sized (value.Local n ∷ b ∷ d ∷ args) = refl
 
   local-sized : (args : List Value) → library_call threads shapes me private call.Alloc shape args
-      ≡ with_one (one_size args) (alloc threads shapes me private shape)
+      ≡ with_one (one_size args) (allocation threads shapes me private (Some me) shape 1)
   local-sized [] = refl
   local-sized (value.Scalar (Int n) ∷ []) = refl
   local-sized (value.Scalar (Shared n) ∷ []) = refl
@@ -84,9 +84,9 @@ module _ (threads : ℕ) (shapes : List Shape) (me : ℕ) (private : ℕ → Opt
   -- An allocation by the sizes that code reads off its arguments.
   pub global-of : (args : List Value) (n b : ℕ) → Some (n, b) ≡ two_sizes args
       → library_call threads shapes me private call.GlobalAlloc shape args
-      ≡ global_alloc threads shapes me private shape n b
+      ≡ allocation threads shapes me private None shape n b
   global-of args n b e = global-sized args
-      ∙ ap (λ (s : Option (ℕ × ℕ)). with_two s (global_alloc threads shapes me private shape)) (sym e)
+      ∙ ap (λ (s : Option (ℕ × ℕ)). with_two s (allocation threads shapes me private None shape)) (sym e)
 
   pub all-of : (args : List Value) (n b : ℕ) → Some (n, b) ≡ two_sizes args
       → library_call threads shapes me private call.AllAlloc shape args
@@ -95,9 +95,9 @@ module _ (threads : ℕ) (shapes : List Shape) (me : ℕ) (private : ℕ → Opt
       ∙ ap (λ (s : Option (ℕ × ℕ)). with_two s (all_alloc threads shapes me private shape)) (sym e)
 
   pub local-of : (args : List Value) (b : ℕ) → Some b ≡ one_size args
-      → library_call threads shapes me private call.Alloc shape args ≡ alloc threads shapes me private shape b
+      → library_call threads shapes me private call.Alloc shape args ≡ allocation threads shapes me private (Some me) shape 1 b
   local-of args b e = local-sized args
-      ∙ ap (λ (s : Option ℕ). with_one s (alloc threads shapes me private shape)) (sym e)
+      ∙ ap (λ (s : Option ℕ). with_one s (allocation threads shapes me private (Some me) shape 1)) (sym e)
 
 -- ---- the scalars among values
 

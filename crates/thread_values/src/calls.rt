@@ -6,6 +6,7 @@ ghost use Rattle.block_layout.specs.declared.kind.Kind.TheVariants as kind;
 ghost use Rattle.block_layout.specs.declared.kind.Shape.{Shape};
 ghost use Rattle.integers.specs.Integers.{converted};
 ghost use Rattle.thread_steps.specs.Blocks as pure;
+ghost use Rattle.thread_steps.specs.layer.Parts as parts;
 ghost use Rattle.thread_steps.specs.layer.Ranges.{IsHeld, IsNumber};
 ghost use Rattle.thread_steps.specs.States.{Thread};
 ghost use Rattle.thread_steps.specs.Values.{number, number_of};
@@ -28,7 +29,7 @@ const MOST_BYTES: u128 = limits::SHARED_BYTES as u128;
 
 /// The pointer to a private object of this number, or a null one.
 pub fn pointer_to(object: Option<u64>) -> Value
-    ensures value { result ≡ pure.pointer_to object }
+    ensures value { result ≡ parts.pointer_to object }
     ensures held { (threads : ℕ) (shapes : List Shape) → IsHeld threads shapes result }
 {
     match object {

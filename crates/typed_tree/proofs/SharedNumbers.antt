@@ -5,8 +5,8 @@ use Rattle.std.specs.List.{slice_get}
 use Rattle.std.specs.Option.{option_map}
 use Rattle.std.proofs.lemmas.Option.{slice_get-map, slice_get-get_or}
 use Rattle.typed_tree.specs.declared.beginning.SharedDecl.{SharedDecl}
+use Rattle.typed_tree.specs.layer.Parts.{object_of}
 use Rattle.typed_tree.specs.Initials.{numbered}
-use Rattle.typed_tree.specs.Objects.{object_of}
 
 -- The object with a number, by its place in the list.
 pub numbered_at : (xs : List SharedDecl) (n : ℕ) (x : SharedDecl) → 0 < n → n - 1 < length xs → x

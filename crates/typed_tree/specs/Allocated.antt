@@ -2,6 +2,7 @@
 -- upc_alloc in functions, in the order in which the calls are finished. An element type is the target of the call's
 -- type, where it has a layout.
 use Rattle.std.specs.Prelude.{if◌then◌else◌, List, [], ◌∷◌, ◌++◌, Option, Some, None}
+use Rattle.std.specs.List.{flat_map}
 use Rattle.upc_types.specs.Types.{CType, base_of, Structs}
 use Rattle.typed_tree.specs.declared.tree.Target.{Target}
 use Rattle.typed_tree.specs.declared.tree.Target.TheVariants as targets
@@ -21,14 +22,11 @@ use Rattle.typing_rules.specs.Rules.{has_size}
 
 -- ---- calls
 
--- This type, where it has a layout: it is complete, and has no more bytes than an object can have.
-abbrev pub laid : Structs → CType → List CType
-laid s t = if has_size s t then t ∷ [] else []
-
--- The target of a pointer, where there is one and it has a layout.
+-- The target of a pointer, where there is one and it has a layout: it is complete, and has no more bytes than an object
+-- can have.
 abbrev pub laid_target : Structs → Option CType → List CType
 laid_target s None = []
-laid_target s (Some t) = laid s t
+laid_target s (Some t) = if has_size s t then t ∷ [] else []
 
 -- The element type that a call with a value of this type allocates; a call of any other function allocates none
 -- (UPC 7.2.2).
@@ -46,11 +44,6 @@ abbrev mutual
 
   -- The element types that the parts of an expression allocate, and then that of the expression where it is a call.
   pub allocated_kind : Structs → Attr → ExprKind → List CType
-  allocated_kind s attr Literal = []
-  allocated_kind s attr Mythread = []
-  allocated_kind s attr (Object home) = []
-  allocated_kind s attr (Callee target) = []
-  allocated_kind s attr (Format bytes) = []
   allocated_kind s attr (Paren a) = allocated_expr s a
   allocated_kind s attr (Subscript a i) = allocated_expr s a ++ allocated_expr s i
   allocated_kind s attr (Call target args) = allocated_exprs s args ++ allocated_call s attr.ctype target
@@ -61,7 +54,6 @@ abbrev mutual
   allocated_kind s attr (Dereference a) = allocated_expr s a
   allocated_kind s attr (Unary op a) = allocated_expr s a
   allocated_kind s attr (SizeOf op a) = allocated_expr s a
-  allocated_kind s attr (SizeOfType op t) = []
   allocated_kind s attr (Cast a) = allocated_expr s a
   allocated_kind s attr (Binary op a b) = allocated_expr s a ++ allocated_expr s b
   allocated_kind s attr (And a b) = allocated_expr s a ++ allocated_expr s b
@@ -70,6 +62,7 @@ abbrev mutual
   allocated_kind s attr (Compound op a b) = allocated_expr s a ++ allocated_expr s b
   allocated_kind s attr (Conditional test a b) = allocated_expr s test ++ allocated_expr s a ++ allocated_expr s b
   allocated_kind s attr (Comma parts) = allocated_exprs s parts
+  allocated_kind s attr kind = []
 
   -- The element types that some expressions allocate, from left to right.
   pub allocated_exprs : Structs → Exprs → List CType
@@ -91,8 +84,7 @@ allocated_initial s (InitialList values) = allocated_exprs s values
 
 -- The element types that the initialisers of objects allocate, in the order of the objects.
 abbrev pub allocated_objects : Structs → List DeclaredObject → List CType
-allocated_objects s [] = []
-allocated_objects s (x ∷ xs) = allocated_initial s x.initial ++ allocated_objects s xs
+allocated_objects s xs = flat_map (λ x. allocated_initial s x.initial) xs
 
 -- The element types that the head of a loop allocates: its first part, its condition, and then its step.
 abbrev pub allocated_head : Structs → Head → List CType
@@ -124,11 +116,9 @@ abbrev mutual
   allocated_by s (For head body) = allocated_head s head ++ allocated_statement s body
   allocated_by s (Forall head affinity body) =
       allocated_head s head ++ allocated_affinity s affinity ++ allocated_statement s body
-  allocated_by s Break = []
-  allocated_by s Continue = []
   allocated_by s (Return value) = allocated_value s value
   allocated_by s (Synchronise how value) = allocated_value s value
-  allocated_by s Fence = []
+  allocated_by s kind = []
 
   -- The element types that the statement after the last `else` allocates; none where there is no such statement.
   pub allocated_last : Structs → StatementOption → List CType
@@ -156,5 +146,4 @@ abbrev mutual
 
 -- The element types that functions allocate, function by function (UPC 7.2.2).
 abbrev pub allocated_in : Structs → List Function → List CType
-allocated_in s [] = []
-allocated_in s (f ∷ fs) = allocated_statement s f.body ++ allocated_in s fs
+allocated_in s fs = flat_map (λ f. allocated_statement s f.body) fs

@@ -1,6 +1,7 @@
 -- The elements of shared objects (UPC 6.5.1.1), and their shapes by number.
 use Rattle.std.specs.Prelude.{ℕ, ◌+◌, nat_lt, ◌==◌, Bool, ◌&&◌, not, if◌then◌else◌, List, [], ◌∷◌, ◌++◌, length, map}
 use Rattle.std.specs.Prelude.{filter}
+use Rattle.std.specs.List.{fold}
 use Rattle.block_layout.specs.declared.kind.Kind.{Kind}
 use Rattle.block_layout.specs.declared.kind.Shape.{Shape}
 use Rattle.block_layout.specs.Shapes.{same_kind}
@@ -16,25 +17,17 @@ element_shape structs t = record {
   cells = sharable (leaf_shape structs (base_of t)).cells;
 }
 
--- Whether two shapes have the same size and the same cells.
-abbrev pub same_shape : Shape → Shape → Bool
-same_shape a b = a.size == b.size && same_cells a.cells b.cells
-
--- The number of a shape among these: the place of the first that is equal, from 0, and where none is, their count.
+-- The number of a shape among these: the place of the first that has the same size and the same
+-- cells, from 0, and where none has, their count.
 abbrev pub number_among : List Shape → Shape → ℕ
 number_among [] s = 0
-number_among (x ∷ xs) s = if same_shape x s then 0 else number_among xs s + 1
+number_among (x ∷ xs) s = if x.size == s.size && same_cells x.cells s.cells then 0 else number_among xs s + 1
 
 -- The shapes with numbers after this one was given a number, where no equal one had one.
 abbrev pub with_shape : List Shape → Shape → List Shape
 with_shape xs s = if nat_lt (number_among xs s) (length xs) then xs else xs ++ (s ∷ [])
 
--- The shapes with numbers after each of these was given a number, where no equal one had one.
-abbrev pub with_shapes : List Shape → List Shape → List Shape
-with_shapes xs [] = xs
-with_shapes xs (s ∷ ss) = with_shapes (with_shape xs s) ss
-
 -- The shapes of the leaf elements of shared objects of these types, by number; equal ones are one, at the first
 -- (UPC 6.5.1.1).
 abbrev pub element_shapes : Structs → List CType → List Shape
-element_shapes structs ts = with_shapes [] (map (element_shape structs) ts)
+element_shapes structs ts = fold with_shape [] (map (element_shape structs) ts)

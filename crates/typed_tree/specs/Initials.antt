@@ -23,7 +23,6 @@ use Rattle.typing_rules.specs.Constants.{cast_constant}
 use Rattle.typing_rules.specs.Attributes.{constant_of}
 use Rattle.typed_tree.specs.Tree.{DeclaredObject, Initial, InitialValue, InitialList, attr_of, attrs_of}
 use Rattle.typed_tree.specs.declared.beginning.SharedDecl.{SharedDecl}
-use Rattle.typed_tree.specs.Objects.{object_of}
 use Rattle.upc_values.specs.declared.scalar.Value.{Value}
 use Rattle.upc_values.specs.declared.scalar.Value.TheVariants as value
 
@@ -42,30 +41,22 @@ abbrev pub known_or_zero : Constant → ℤ
 known_or_zero (Known v) = v
 known_or_zero c = pos 0
 
--- The integer with which an object of this kind begins by a constant: the constant's value, converted, and 0 where it
--- has no integer value (C99 6.3.1.3).
-abbrev pub integer_in : Kind → Constant → ℤ
-integer_in kind c = known_or_zero (cast_constant kind c)
-
 -- Whether a pointer-to-shared with this block names a thread of the run, a phase of the block, and an offset in range.
 abbrev pub fits : ℕ → ℕ → SharedPtr → Bool
 fits threads block p = nat_lt p.thread threads && ((p.phase == 0 || nat_lt p.phase block) && in_range p.offset)
 
--- A pointer-to-shared with this block, or null where its thread, phase or offset is out of range.
-abbrev pub fitting : ℕ → ℕ → SharedPtr → SharedPtr
-fitting threads block p = if fits threads block p then p else null
-
 -- The shared object with this number, from 1 on; none where there is no such object.
 abbrev pub numbered : List SharedDecl → ℕ → Option ObjectRef
 numbered shared zero = None
-numbered shared (suc n) = slice_get (map object_of shared) n
+numbered shared (suc n) = slice_get (map (λ x. x.object) shared) n
 
 -- The pointer-to-shared with this block into an object, with this thread, phase and offset; null where there is no
 -- object, or they are out of range.
 abbrev pub pointer_into : ℕ → ℕ → Option ObjectRef → ℕ → ℕ → ℤ → SharedPtr
 pointer_into threads block None thread phase offset = null
 pointer_into threads block (Some object) thread phase offset =
-    fitting threads block (record { object = object; thread = thread; phase = phase; offset = offset })
+    let p : SharedPtr = record { object = object; thread = thread; phase = phase; offset = offset } in
+    if fits threads block p then p else null
 
 -- The pointer-to-shared with this block that a constant gives: the address of a shared object of the file, else null
 -- (C99 6.6).
@@ -86,7 +77,7 @@ abbrev pub value_in : Setting → Kind → Constant → Value
 value_in σ (kinds.Shared n block) c = value.Scalar (scalar.Shared (shared_pointer_in σ block c))
 value_in σ (kinds.Private n) c = value.Local (local_pointer_in σ c)
 value_in σ kinds.Lock c = value.Scalar (scalar.Lock 0)
-value_in σ kind c = value.Scalar (scalar.Int (integer_in kind c))
+value_in σ kind c = value.Scalar (scalar.Int (known_or_zero (cast_constant kind c)))
 
 -- ---- initialisers
 

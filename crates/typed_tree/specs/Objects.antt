@@ -18,18 +18,13 @@ abbrev pub is_shared : Home → Bool
 is_shared (Shared number) = true
 is_shared home = false
 
--- Whether an object that lies there is a private one of the file.
-abbrev pub is_private : Home → Bool
-is_private (Private number) = true
-is_private home = false
-
 -- The shared objects among these, in order.
 abbrev pub shared_in : List DeclaredObject → List DeclaredObject
 shared_in objects = filter (λ x. is_shared x.home) objects
 
 -- The private objects of the file among these, in order.
 abbrev pub private_in : List DeclaredObject → List DeclaredObject
-private_in objects = filter (λ x. is_private x.home) objects
+private_in objects = filter (λ x. elim x.home [ Private number ↦ true | _ ↦ false ]) objects
 
 -- The type of a declared object.
 abbrev pub type_of : DeclaredObject → CType
@@ -69,10 +64,6 @@ placed structs shapes number base x = record {
   elements = leaves (base_of x.ctype);
   size = (element_shape structs x.ctype).size;
 }
-
--- Where a declared shared object lies.
-abbrev pub object_of : SharedDecl → ObjectRef
-object_of x = x.object
 
 -- Shared objects, numbered from this number on, each after the bytes of the one before it, and the first after so many
 -- bytes of others (UPC 6.5.1.1).

@@ -3,3 +3,4 @@ pub mod Judged
 pub mod TypedNodes
 pub mod ExpressionLaws
 pub mod ViewEnv
+pub mod Parts

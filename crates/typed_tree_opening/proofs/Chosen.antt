@@ -9,8 +9,10 @@ use Rattle.upc_types.specs.View.{view}
 use Rattle.upc_types.specs.Layout.{is_complete, size, most_bytes}
 use Rattle.upc_types.proofs.Members.{next}
 use Rattle.typed_tree.specs.declared.tree.Object.{Object}
+use Rattle.typed_tree.specs.layer.Parts.{is_private}
+use Rattle.typed_tree.specs.Objects.{is_shared}
 use Rattle.typed_tree.specs.Tree.{DeclaredObject}
-use Rattle.typed_tree.specs.Objects.{is_shared, is_private, shared_in, private_in, type_of}
+use Rattle.typed_tree.specs.Objects.{shared_in, private_in, type_of}
 use Rattle.typing_rules.specs.Rules.{has_size}
 use Rattle.typed_tree.specs.ViewStatements.{view_object}
 use Rattle.typed_tree.specs.Targets.{with_targets}

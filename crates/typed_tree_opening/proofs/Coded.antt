@@ -7,7 +7,8 @@ use Rattle.block_layout.specs.declared.kind.Shape.{Shape}
 use Rattle.upc_types.specs.layer.Places.{place_below}
 use Rattle.upc_types.proofs.PlacesOfNumbers.{up_to}
 use Rattle.upc_types.proofs.Coded.{skipped}
-use Rattle.typed_tree.specs.Elements.{same_shape, number_among}
+use Rattle.typed_tree.specs.Elements.{number_among}
+use Rattle.typed_tree.specs.layer.Parts.{same_shape}
 use Rattle.typed_tree_opening.specs.code.Apart.{code_of, codes_of, AreApart}
 use Rattle.typed_tree_opening.proofs.Sound.{shape_is}
 use Rattle.typed_tree_opening.proofs.Numbering.{number_before, number_behind}

@@ -10,6 +10,7 @@ use Rattle.upc_types.proofs.Members.{next}
 use Rattle.upc_values.proofs.Membership.{left_from, each-append}
 use Rattle.typing_rules.specs.Rules.{has_size}
 use Rattle.typed_tree.specs.declared.tree.Object as o
+use Rattle.typed_tree.specs.layer.Parts.{laid}
 use Rattle.typed_tree.specs.declared.tree.Arm as a
 use Rattle.typed_tree.specs.declared.tree.Item as m
 use Rattle.typed_tree.specs.declared.tree.SwitchItem as w
@@ -18,7 +19,6 @@ use Rattle.typed_tree.specs.Tree.{DeclaredObject, NoItems, NoSwitchItems, Functi
 use Rattle.typed_tree.specs.ViewStatements.{view_object, view_statement, view_statement_kind, view_arms, view_item}
 use Rattle.typed_tree.specs.ViewStatements.{view_items, view_switch_item, view_switch_items, view_function}
 use Rattle.typed_tree.specs.Objects.{type_of}
-use Rattle.typed_tree.specs.Allocated.{laid}
 use Rattle.typed_tree.specs.LocalObjects.{objects_in, objects_by, arms_objects, items_objects, switch_objects}
 use Rattle.typed_tree.specs.LocalObjects.{with_layout, types_in}
 use Rattle.typed_tree_opening.specs.code.LaidObjects.{laid_objects}

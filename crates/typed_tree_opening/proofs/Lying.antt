@@ -14,9 +14,10 @@ use Rattle.upc_types.specs.Cells.{leaves}
 use Rattle.upc_types.proofs.Within.{leaf_sizes}
 use Rattle.typing_rules.specs.Constants.{block_or_none}
 use Rattle.typed_tree.specs.Tree.{DeclaredObject}
+use Rattle.typed_tree.specs.layer.Parts.{object_of}
 use Rattle.typed_tree.specs.Elements.{element_shape, element_shapes}
 use Rattle.typing_rules.specs.Rules.{has_size}
-use Rattle.typed_tree.specs.Objects.{object_of, type_of, bytes_in, lies, placed_from}
+use Rattle.typed_tree.specs.Objects.{type_of, bytes_in, lies, placed_from}
 use Rattle.typed_tree_opening.proofs.Shapes.{layout_is}
 use Rattle.typed_tree_opening.proofs.Placing.{bytes_step}
 use Rattle.typed_tree_opening.proofs.Sound.{AreFine, IsListed, base_some, listed_all}

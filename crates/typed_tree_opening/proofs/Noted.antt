@@ -1,12 +1,13 @@
 -- Targets that have numbers keep them.
 use Rattle.std.proofs.Common.{◌≡◌, ℕ, ◌+◌, ◌<◌, suc, Bool, true, false, if◌then◌else◌, List, [], ◌∷◌, ◌++◌}
+use Rattle.typed_tree.specs.layer.Parts.{with_noted}
 use Rattle.std.proofs.Common.{length, refl, ap, ◌∙◌, arith}
 use Rattle.std.proofs.lemmas.Bool.{ltb-true, ltb-false, lt-ltb}
 use Rattle.std.proofs.lemmas.List.{length-append}
 use Rattle.upc_types.specs.Types.{CType, Structs}
-use Rattle.upc_types.specs.Cells.{alike, number_of, is_noted}
+use Rattle.upc_types.specs.layer.Parts.{is_noted}
+use Rattle.upc_types.specs.Cells.{alike, number_of}
 use Rattle.upc_types.proofs.Numbers.{most, last}
-use Rattle.typed_tree.specs.Targets.{with_noted}
 use Rattle.typed_tree_opening.specs.code.Pending.{AreNoted}
 use Rattle.typed_tree_opening.proofs.Pointed.{noted_append}
 

@@ -3,7 +3,8 @@ use Rattle.std.proofs.Common.{◌≡◌, ℕ, ◌+◌, ◌<◌, ◌≤◌, suc, 
 use Rattle.std.proofs.lemmas.Bool.{ltb-true, ltb-false}
 use Rattle.std.proofs.lemmas.List.{length-append}
 use Rattle.block_layout.specs.declared.kind.Shape.{Shape}
-use Rattle.typed_tree.specs.Elements.{same_shape, number_among, with_shape, with_shapes}
+use Rattle.typed_tree.specs.Elements.{number_among, with_shape}
+use Rattle.typed_tree.specs.layer.Parts.{same_shape, with_shapes}
 use Rattle.typed_tree_opening.proofs.Sound.{shape_itself}
 
 before_one : (b : Bool) (n m count : ℕ) → (n < count → m ≡ n) → (if b then 0 else n + 1) < suc count → (if b then 0 else m + 1) ≡ (if b then 0 else n + 1)

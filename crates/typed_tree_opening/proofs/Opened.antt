@@ -9,9 +9,11 @@ use Rattle.upc_types.specs.declared.ctype.Access.TheVariants.{Unsaid}
 use Rattle.upc_types.specs.Types.{CType, Qualified, Void, base_of, Structs}
 use Rattle.typing_rules.specs.declared.setting.Home.TheVariants as home
 use Rattle.typed_tree.specs.Tree.{DeclaredObject, NoInitial}
+use Rattle.typed_tree.specs.layer.Parts.{is_private}
+use Rattle.typed_tree.specs.Objects.{is_shared}
 use Rattle.typed_tree.specs.Elements.{element_shape, element_shapes}
 use Rattle.typing_rules.specs.Rules.{has_size}
-use Rattle.typed_tree.specs.Objects.{is_shared, is_private, shared_in, private_in, type_of, bytes_in}
+use Rattle.typed_tree.specs.Objects.{shared_in, private_in, type_of, bytes_in}
 use Rattle.typed_tree.specs.Initials.{shared_from}
 use Rattle.typed_tree.specs.Beginnings.{begun, opening_in}
 use Rattle.typed_tree.specs.layer.PrivateOpenings.{HavePrivateValues}

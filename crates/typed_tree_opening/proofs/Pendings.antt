@@ -10,7 +10,8 @@ use Rattle.upc_types.specs.Types.{CType, Completed, Structs, members_in}
 use Rattle.upc_types.specs.layer.Kept.{is_ordered}
 use Rattle.upc_types.specs.Cells.{leaf_base}
 use Rattle.upc_types.proofs.Members.{next}
-use Rattle.typed_tree.specs.Targets.{leaf_targets, members_targets, struct_targets, with_noted}
+use Rattle.typed_tree.specs.Targets.{leaf_targets, struct_targets}
+use Rattle.typed_tree.specs.layer.Parts.{members_targets, with_noted}
 use Rattle.typed_tree_opening.specs.declared.targets.Pending.{Pending}
 use Rattle.typed_tree_opening.specs.declared.targets.Leaf.{Leaf}
 use Rattle.typed_tree_opening.specs.declared.targets.Leaf.TheVariants.{Inside}

@@ -16,7 +16,8 @@ use Rattle.upc_types.proofs.Members.{next}
 use Rattle.upc_types.proofs.Steps as steps
 use Rattle.upc_types.proofs.Order.{complete_before, complete_since, base_kept, all_kept, leaf_complete}
 use Rattle.upc_types.proofs.Ranks.{place_or_none, rank}
-use Rattle.typed_tree.specs.Targets.{leaf_targets, members_targets, struct_targets, types_targets, noted_all}
+use Rattle.typed_tree.specs.Targets.{leaf_targets, struct_targets}
+use Rattle.typed_tree.specs.layer.Parts.{members_targets, types_targets, noted_all}
 use Rattle.typed_tree.specs.Targets.{with_targets}
 use Rattle.upc_types.proofs.Steps.{deeper}
 

@@ -10,7 +10,8 @@ use Rattle.upc_values.specs.Lists.{Each}
 use Rattle.upc_types.specs.declared.layout.Layout.{Layout}
 use Rattle.upc_types.specs.Types.{CType, base_of, Structs}
 use Rattle.upc_types.specs.Layout.{base_layout, layout_in, is_complete, size, most_bytes}
-use Rattle.typed_tree.specs.Elements.{with_shape, with_shapes}
+use Rattle.typed_tree.specs.Elements.{with_shape}
+use Rattle.typed_tree.specs.layer.Parts.{with_shapes}
 use Rattle.typing_rules.specs.Rules.{has_size}
 use Rattle.block_layout.proofs.Within.{lower}
 use Rattle.upc_types.proofs.Sizes.{if_small}

@@ -19,7 +19,8 @@ use Rattle.upc_types.specs.Cells.{leaf_base, leaf_cells, struct_cells, object_sh
 use Rattle.upc_types.specs.layer.Kept.{IsFine}
 use Rattle.upc_types.proofs.Order.{leaf_complete}
 use Rattle.upc_types.proofs.Within.{leaf_within, object_within}
-use Rattle.typed_tree.specs.Elements.{element_shape, same_shape, number_among, with_shape, with_shapes}
+use Rattle.typed_tree.specs.Elements.{element_shape, number_among, with_shape}
+use Rattle.typed_tree.specs.layer.Parts.{same_shape, with_shapes}
 use Rattle.typing_rules.specs.Rules.{has_size}
 use Rattle.typed_tree_opening.proofs.Shapes.{layout_is, sharable_within, sharable_each}
 use Rattle.upc_types.proofs.Members.{kind_some, pointer_some}

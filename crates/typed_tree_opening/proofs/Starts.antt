@@ -22,12 +22,13 @@ use Rattle.upc_types.specs.Layout.{size}
 use Rattle.upc_types.specs.Cells.{pointer_kind, leaf_base, leaf_cells, struct_cells}
 use Rattle.typing_rules.specs.declared.attribute.Constant.{Constant}
 use Rattle.typed_tree.specs.Tree.{DeclaredObject, Initial, NoInitial, InitialValue, InitialList, attr_of}
+use Rattle.typed_tree.specs.layer.Parts.{object_of}
 use Rattle.typing_rules.specs.Attributes.{constant_of}
 use Rattle.upc_values.specs.declared.scalar.Value.{Value}
 use Rattle.upc_values.specs.declared.scalar.Value.TheVariants as value
 use Rattle.block_layout.specs.Cells.{sharable}
 use Rattle.typed_tree.specs.Elements.{element_shape}
-use Rattle.typed_tree.specs.Objects.{object_of, bytes_in, lies, placed_from}
+use Rattle.typed_tree.specs.Objects.{bytes_in, lies, placed_from}
 use Rattle.typed_tree.specs.Initials.{Setting, scalar_kind, single, at_start, shared_from, value_in}
 use Rattle.typed_tree_opening.proofs.Sound.{IsListed}
 use Rattle.typed_tree_opening.proofs.Lying.{placed_at}

@@ -27,10 +27,10 @@ use Rattle.typing_rules.specs.declared.attribute.Static.TheVariants as static
 use Rattle.typing_rules.specs.declared.attribute.Constant.{Constant}
 use Rattle.typing_rules.specs.declared.attribute.Constant.TheVariants.{Variable, Known, Undefined, Null, Address}
 use Rattle.typed_tree.specs.declared.beginning.SharedDecl.{SharedDecl}
+use Rattle.typed_tree.specs.layer.Parts.{integer_in, object_of}
 use Rattle.upc_values.specs.declared.scalar.Value.{Value}
 use Rattle.upc_values.specs.declared.scalar.Value.TheVariants as value
-use Rattle.typed_tree.specs.Objects.{object_of}
-use Rattle.typed_tree.specs.Initials.{Setting, integer_in, fits, numbered, pointer_into, shared_pointer_in}
+use Rattle.typed_tree.specs.Initials.{Setting, fits, numbered, pointer_into, shared_pointer_in}
 use Rattle.typed_tree.specs.Initials.{local_pointer_in, value_in}
 use Rattle.block_layout.specs.declared.place.LocalPtr.{LocalPtr}
 use Rattle.block_layout.specs.declared.place.LocalPtr.TheVariants as local

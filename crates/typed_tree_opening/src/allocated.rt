@@ -5,6 +5,7 @@ ghost use Rattle.upc_types.specs.View.{view, view_base};
 ghost use Rattle.upc_types.specs.ViewStructs.{view_structs};
 ghost use Rattle.upc_values.specs.Lists.{Each};
 ghost use Rattle.typed_tree.specs.Tree.{exprs_of, NoItems, NoSwitchItems};
+ghost use Rattle.typed_tree.specs.layer.Parts as parts;
 ghost use Rattle.typing_rules.specs.Values.{base_target};
 ghost use Rattle.typed_tree.specs.ViewTree.{view_expr};
 ghost use Rattle.typed_tree.specs.ViewStatements.{view_affinity, view_arms, view_function, view_head, view_initial};
@@ -29,7 +30,7 @@ pub(crate) fn push_laid(
     out: &mut Vec<CType>,
 ) -> Result<(), OutOfMemory>
     ensures { OnOk result (map view out.new.items ≡ map view out.old.items
-        ++ pure.laid (view_structs structs.now) (view t.now)) }
+        ++ parts.laid (view_structs structs.now) (view t.now)) }
 {
     if structs.layout_of(&t.base).is_some() {
         out.push(copy_type(t)?)?;

@@ -7,6 +7,7 @@ ghost use Rattle.upc_values.specs.Openings.{IsSharable};
 ghost use Rattle.upc_types.specs.View.{view};
 ghost use Rattle.upc_types.specs.ViewStructs.{view_structs};
 ghost use Rattle.typed_tree.specs.Elements as pure;
+ghost use Rattle.typed_tree.specs.layer.Parts as parts;
 ghost use Rattle.typing_rules.specs.Rules.{has_size};
 
 use crate::known_shapes::KnownShapes;
@@ -31,7 +32,7 @@ pub fn element_shape(alloc: Global, t: &CType, structs: &Structs) -> Result<Shap
 }
 
 pub(crate) fn same_shape(a: &Shape, b: &Shape) -> bool
-    ensures { result ≡ pure.same_shape a.now b.now }
+    ensures { result ≡ parts.same_shape a.now b.now }
 {
     a.size == b.size && a.cells.same(&b.cells)
 }
@@ -61,7 +62,7 @@ pub(crate) fn number_types(
     types: &[CType],
 ) -> Result<(), OutOfMemory>
     requires { Each (λ t. has_size (view_structs structs.now) t ≡ true) (map view types.now) }
-    ensures { OnOk result (shapes.new.list.items ≡ pure.with_shapes shapes.old.list.items
+    ensures { OnOk result (shapes.new.list.items ≡ parts.with_shapes shapes.old.list.items
         (map (pure.element_shape (view_structs structs.now)) (map view types.now))) }
 {
     for t in types {

@@ -8,6 +8,7 @@ ghost use Rattle.upc_types.specs.ViewStructs.{view_structs};
 ghost use Rattle.typing_rules.specs.Constants.{block_or_none};
 ghost use Rattle.typing_rules.specs.Rules.{has_size};
 ghost use Rattle.typed_tree.specs.Elements as elements;
+ghost use Rattle.typed_tree.specs.layer.Parts as parts;
 ghost use Rattle.typed_tree.specs.Objects as pure;
 ghost use Rattle.typed_tree.specs.ViewStatements.{view_object};
 
@@ -27,7 +28,7 @@ pub(crate) fn is_shared(home: Home) -> bool
 }
 
 pub(crate) fn is_private(home: Home) -> bool
-    ensures { result ≡ pure.is_private home }
+    ensures { result ≡ parts.is_private home }
 {
     matches!(home, Home::Private(_))
 }
@@ -112,7 +113,7 @@ fn placed_next(
     ensures shapes { OnOk result (shapes.new.list.items ≡ elements.with_shape shapes.old.list.items
         (elements.element_shape (view_structs structs.now) (view declared.now.ctype))) }
     ensures object { IfOk result (λ x. (more : List Shape)
-        → x ≡ pure.placed (view_structs structs.now) (elements.with_shapes shapes.new.list.items more) number base
+        → x ≡ pure.placed (view_structs structs.now) (parts.with_shapes shapes.new.list.items more) number base
         (view_object declared.now)) }
 {
     let element = element_shape(alloc, &declared.ctype, structs)?;
@@ -133,11 +134,11 @@ fn placed_objects(
     requires layouts { Each (λ x. has_size (view_structs structs.now) x.ctype ≡ true) (map view_object objects.now) }
     requires bytes { pure.bytes_in (view_structs structs.now)
         (pure.shared_in (map view_object objects.now)) ≤ 16777216 }
-    ensures shapes { OnOk result (shapes.new.list.items ≡ elements.with_shapes shapes.old.list.items
+    ensures shapes { OnOk result (shapes.new.list.items ≡ parts.with_shapes shapes.old.list.items
         (map (elements.element_shape (view_structs structs.now))
         (map pure.type_of (pure.shared_in (map view_object objects.now))))) }
     ensures objects { IfOk result (λ xs. (more : List Shape) → xs.items
-        ≡ pure.placed_from (view_structs structs.now) (elements.with_shapes shapes.new.list.items more) 1 0
+        ≡ pure.placed_from (view_structs structs.now) (parts.with_shapes shapes.new.list.items more) 1 0
         (pure.shared_in (map view_object objects.now))) }
 {
     let mut shared = Vec::new(alloc);

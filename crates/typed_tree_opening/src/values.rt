@@ -6,6 +6,7 @@ ghost use Rattle.integers.specs.Integers.{IsInteger};
 ghost use Rattle.upc_types.specs.View.{view_base};
 ghost use Rattle.upc_types.specs.ViewStructs.{view_structs};
 ghost use Rattle.typed_tree.specs.Initials as pure;
+ghost use Rattle.typed_tree.specs.layer.Parts as parts;
 ghost use Rattle.typed_tree_opening.specs.code.ViewSettings.{view_setting};
 
 use crate::setting::Setting;
@@ -25,7 +26,7 @@ fn is_in_range(offset: i64) -> bool
 // The integer that a constant is in an object of this kind.
 fn integer_in(kind: Kind, constant: Constant) -> i128
     requires { IsInteger kind }
-    ensures { result ≡ pure.integer_in kind constant }
+    ensures { result ≡ parts.integer_in kind constant }
 {
     match cast_constant(kind, constant) {
         Constant::Known(v) => v,
@@ -40,7 +41,7 @@ fn fits(threads: u32, block: u32, p: &SharedPtr) -> bool
 }
 
 fn fitting(threads: u32, block: u32, p: SharedPtr) -> SharedPtr
-    ensures { result ≡ pure.fitting threads block p }
+    ensures { result ≡ parts.fitting threads block p }
 {
     if fits(threads, block, &p) {
         p

@@ -183,7 +183,6 @@ call_result _ = void
 
 -- What a call of the library takes (C99 7.19.6.3; UPC 7.2, 7.3). The arguments of printf are judged by its format.
 abbrev pub call_parameters : LibraryCall → List LibraryParameter
-call_parameters Printf = []
 call_parameters ThreadOf = SharedPointer ∷ []
 call_parameters PhaseOf = SharedPointer ∷ []
 call_parameters AddressField = SharedPointer ∷ []
@@ -193,8 +192,6 @@ call_parameters AllAlloc = Size ∷ Size ∷ []
 call_parameters Alloc = Size ∷ []
 call_parameters Free = SharedPointer ∷ []
 call_parameters AllFree = SharedPointer ∷ []
-call_parameters GlobalLockAlloc = []
-call_parameters AllLockAlloc = []
 call_parameters Lock = LockPointer ∷ []
 call_parameters LockAttempt = LockPointer ∷ []
 call_parameters Unlock = LockPointer ∷ []
@@ -213,6 +210,7 @@ call_parameters Exchange = SharedPointer ∷ SharedPointer ∷ Size ∷ Int ∷ 
 call_parameters Permute = SharedPointer ∷ SharedPointer ∷ SharedPointer ∷ Size ∷ Int ∷ []
 call_parameters (Reduce kind) = SharedPointer ∷ SharedPointer ∷ Int ∷ Size ∷ Size ∷ NoFunction ∷ Int ∷ []
 call_parameters (PrefixReduce kind) = SharedPointer ∷ SharedPointer ∷ Int ∷ Size ∷ Size ∷ NoFunction ∷ Int ∷ []
+call_parameters call = []
 
 -- The calls whose result has its type only where it is converted (UPC 7.2.2).
 abbrev pub is_allocation : LibraryCall → Bool

@@ -11,9 +11,11 @@ use Rattle.upc_types.specs.Layout.{base_within, base_layout, base_complete, comp
 use Rattle.typing_rules.specs.declared.setting.Home.{Home}
 use Rattle.typing_rules.specs.declared.setting.Home.TheVariants.{Private, Shared, Local}
 use Rattle.typed_tree.specs.Tree.{DeclaredObject, Function}
+use Rattle.typed_tree.specs.Objects.{is_shared}
+use Rattle.typed_tree.specs.layer.Parts as parts
 use Rattle.typing_rules.specs.Rules.{has_size}
 use Rattle.typed_tree.specs.Objects as o
-use Rattle.typed_tree.specs.Objects.{bytes_in, private_in, shared_in, is_shared}
+use Rattle.typed_tree.specs.Objects.{bytes_in, private_in, shared_in}
 use Rattle.upc_tree.specs.Unit.{External}
 use Rattle.typed_tree.specs.Scopes.{begin}
 use Rattle.upc_checker.specs.Units.{setting, walk_unit}
@@ -96,7 +98,7 @@ fewer_by σ x xs (Private object) e less =
     rw e (omega (
       arith,
       less,
-      sum_by-cons (λ (y : DeclaredObject). size σ y.ctype) x (filter (λ (y : DeclaredObject). o.is_private y.home) xs),
+      sum_by-cons (λ (y : DeclaredObject). size σ y.ctype) x (filter (λ (y : DeclaredObject). parts.is_private y.home) xs),
       sum_by-cons (λ (y : DeclaredObject). size σ y.ctype) x (filter (λ (y : DeclaredObject). is_private y.home) xs),
     ))
 fewer_by σ x xs (Shared object) e less = rw e less

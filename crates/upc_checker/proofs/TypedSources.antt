@@ -23,8 +23,10 @@ use Rattle.typing_rules.specs.Meanings.{Meaning, Signature}
 use Rattle.typing_rules.specs.Nodes as n
 use Rattle.typing_rules.specs.Rules.{lowest, or_above}
 use Rattle.typed_tree.specs.Scopes.{Setting, Env, Scope, Counts, NoScope, Within, Entry, KnownFunction, begin, spelling, find, find_in, found_or, is_file, file, inside, next_home, declare, with_entry, with_count, with_function, counts_of, differs}
+use Rattle.typed_tree.specs.layer.Parts.{is_private}
+use Rattle.typed_tree.specs.Objects.{is_shared}
 use Rattle.typed_tree.specs.Tree.{DeclaredObject, Function, Statement}
-use Rattle.typed_tree.specs.Objects.{is_private, is_shared, private_in, shared_in, type_of}
+use Rattle.typed_tree.specs.Objects.{private_in, shared_in, type_of}
 use Rattle.typed_tree.specs.Programs.{Checked, without_targets}
 use Rattle.upc_checker_scopes.specs.Known.{definition_again}
 use Rattle.upc_checker_scopes.specs.Walk.{Walk, give, andthen, judge, update, look, facts_in}

@@ -9,10 +9,10 @@ use Rattle.upc_types.specs.Layout.{base_within}
 use Rattle.typing_rules.specs.declared.setting.Home.{Home}
 use Rattle.typing_rules.specs.declared.setting.Home.TheVariants.{Shared}
 use Rattle.typed_tree.specs.Scopes.{begin}
+use Rattle.typed_tree.specs.Objects.{is_shared}
 use Rattle.typed_tree.specs.Tree.{DeclaredObject}
 use Rattle.upc_checker_scopes.specs.Walk.{Walked}
 use Rattle.upc_checker.specs.Units.{Made, setting, walk_unit}
-use Rattle.typed_tree.specs.Objects.{is_shared}
 
 -- Whether an object of the file is not shared (UPC 6.5.1.1).
 abbrev pub is_private : Home → Bool

@@ -13,7 +13,8 @@ use Rattle.block_layout.specs.declared.kind.Shape.{Shape}
 use Rattle.block_layout.proofs.Same.{same_exact}
 use Rattle.block_layout.proofs.Told.{same_front}
 use Rattle.upc_values.specs.Shapes.{kind_at, is_integer}
-use Rattle.upc_values.specs.Views.{cells_within, placed_kind}
+use Rattle.upc_values.specs.layer.Parts.{placed_kind}
+use Rattle.upc_values.specs.Views.{cells_within}
 use Rattle.upc_library.specs.code.Ranges.{is_no_integer}
 use Rattle.upc_library.proofs.Cursors.{cons-front, cells_more, no_cells}
 use Rattle.upc_library.proofs.Steps.{passed_over, first_here}

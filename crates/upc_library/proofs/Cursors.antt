@@ -9,7 +9,8 @@ use Rattle.block_layout.specs.Cells.{cells_from}
 use Rattle.block_layout.proofs.FromPlace.{from_within}
 use Rattle.std.proofs.lemmas.Bool.Decides.{leb_tells}
 use Rattle.upc_values.specs.Shapes.{kind_at}
-use Rattle.upc_values.specs.Views.{cells_within, placed_kind}
+use Rattle.upc_values.specs.layer.Parts.{placed_kind}
+use Rattle.upc_values.specs.Views.{cells_within}
 use Rattle.upc_library.specs.code.Cursors.{IsCursor, coming}
 use native.Mathlib.Nat.{mod-add-mod}
 use Rattle.upc_library.proofs.Steps.{none_before, passed_over}

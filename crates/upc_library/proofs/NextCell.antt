@@ -12,7 +12,8 @@ use Rattle.block_layout.specs.declared.kind.Kind.{Kind}
 use Rattle.block_layout.specs.declared.kind.Shape.{Shape}
 use Rattle.block_layout.proofs.Within.{moved_twice}
 use Rattle.upc_values.specs.Shapes.{kind_at}
-use Rattle.upc_values.specs.Views.{cells_within, placed_kind}
+use Rattle.upc_values.specs.layer.Parts.{placed_kind}
+use Rattle.upc_values.specs.Views.{cells_within}
 use Rattle.upc_library.specs.code.Cursors.{IsCursor, coming}
 use Rattle.upc_library.specs.code.Ranges.{cells_left, IsGap, IsNext}
 use Rattle.upc_library.proofs.Compared.{cells_split}

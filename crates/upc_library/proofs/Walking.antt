@@ -12,12 +12,13 @@ use Rattle.block_layout.specs.declared.place.LocalPtr.TheVariants.{Private}
 use Rattle.block_layout.specs.declared.kind.Kind.{Kind}
 use Rattle.block_layout.specs.declared.kind.Shape.{Shape}
 use Rattle.upc_values.specs.declared.scalar.Scalar.{Scalar}
+use Rattle.upc_values.specs.layer.Parts.{unless_refused}
 use Rattle.upc_values.specs.declared.action.Reply.{Reply}
 use Rattle.upc_values.specs.declared.action.Reply.TheVariants as reply
 use Rattle.upc_values.specs.Views.{location_behind}
 use Rattle.upc_values.specs.Copying as said
 use Rattle.upc_values.specs.Copying.{Nowhere, In_shared, In_private}
-use Rattle.upc_values.specs.Expansion.{Expansion, Reads, Loads, nothing, bind, each_in_turn, refused_by, unless_refused}
+use Rattle.upc_values.specs.Expansion.{Expansion, Reads, Loads, nothing, bind, each_in_turn, refused_by}
 use Rattle.upc_values.specs.Expansion.{after_reply, value_in}
 use Rattle.upc_library.specs.layer.Walks.{Source, From, Filled, rest_of, replies_of, written, one, all}
 use Rattle.upc_library.specs.layer.Spots.{IsRoomFor}

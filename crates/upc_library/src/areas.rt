@@ -6,6 +6,7 @@ ghost use Rattle.std.specs.Option.{option_copied};
 ghost use Rattle.std.specs.List.{list_any};
 ghost use Rattle.block_layout.specs.Shapes.{IsShape, kind_size};
 ghost use Rattle.upc_values.specs.Views.{shape_at};
+ghost use Rattle.upc_values.specs.layer.Parts as parts;
 ghost use Rattle.upc_values.specs.Copying as said;
 ghost use Rattle.upc_values.specs.Shapes as shapes;
 ghost use Rattle.block_layout.specs.Cells.{same_cells};
@@ -41,7 +42,7 @@ pub(crate) struct Caller<'a> {
 
 /// Where a pointer-to-shared leads: nowhere if it is null.
 pub(crate) fn shared_area(p: &SharedPtr) -> Area
-    ensures { area_in result ≡ said.shared_area p.now }
+    ensures { area_in result ≡ parts.shared_area p.now }
 {
     if p.is_null() {
         Area::Nowhere
@@ -52,7 +53,7 @@ pub(crate) fn shared_area(p: &SharedPtr) -> Area
 
 /// Where a private pointer leads: into shared space, it may be.
 pub(crate) fn local_area(p: &LocalPtr) -> Area
-    ensures { area_in result ≡ said.local_area p.now }
+    ensures { area_in result ≡ parts.local_area p.now }
 {
     match p {
         LocalPtr::Null => Area::Nowhere,
@@ -94,7 +95,7 @@ pub(crate) fn leaves_shared(caller: &Caller<'_>, bytes: u64, area: &Area) -> boo
 
 // Whether so many bytes lie inside an object of this shape.
 pub(crate) fn is_inside(shape: Option<&Shape>, offset: i64, bytes: u64) -> bool
-    ensures value { result ≡ said.is_inside 0 [] None (option_copied shape.entry) offset bytes }
+    ensures value { result ≡ parts.is_inside offset bytes (option_copied shape.entry) }
     ensures inside { result ≡ true → IsRoomFor bytes offset }
 {
     match shape {

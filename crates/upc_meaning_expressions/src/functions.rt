@@ -5,6 +5,7 @@ ghost use Rattle.upc_types.specs.View.{view};
 ghost use Rattle.upc_types.specs.ViewStructs.{view_structs};
 ghost use Rattle.typed_tree.specs.ViewStatements.{view_function};
 ghost use Rattle.source_meaning.specs.Threads as mean;
+ghost use Rattle.source_meaning.specs.layer.Parts as parts;
 ghost use Rattle.source_meaning.specs.Types as types;
 ghost use Rattle.upc_meaning_settings.specs.layer.Runners.{Fits};
 ghost use Rattle.upc_meaning_settings.specs.layer.Settings.{running_seen};
@@ -34,7 +35,7 @@ pub fn blank_of(setting: Setting<'_>, t: &CType) -> Value
 
 // What a body gives by how it was left.
 fn given_by(blank: Value, flow: Flow) -> Value
-    ensures { result ≡ mean.given_by blank (flow_seen flow) }
+    ensures { result ≡ parts.given_by blank (flow_seen flow) }
 {
     match flow {
         Flow::Gave(v) => v,

@@ -18,10 +18,11 @@ use Rattle.upc_values.specs.LibraryCalls.{valued}
 use Rattle.private_store.specs.Live.{Live}
 use Rattle.private_store.specs.Cells.{loaded, stored}
 use Rattle.thread_steps.specs.States.{Thread, State, Res, Val, Over, bind, give}
+use Rattle.thread_steps.specs.layer.Parts.{with_store}
 use Rattle.thread_steps.specs.States as states
 use Rattle.thread_steps.specs.Values.{kept, scalar_of}
 use Rattle.thread_steps.specs.Actions.{ask}
-use Rattle.thread_steps.specs.Accesses.{run, expanded, with_store}
+use Rattle.thread_steps.specs.Accesses.{run, expanded}
 use Rattle.upc_library.specs.layer.Wishes.{IsWish, kind_read}
 use Rattle.upc_library.specs.declared.copying.CopyWish.TheVariants.{Act, LoadPrivate, StorePrivate, Finished}
 use Rattle.upc_meaning_state.specs.layer.Libraries.{expanded_to}

@@ -4,7 +4,8 @@ use Rattle.upc_text.specs.declared.place.Place.{Place}
 use Rattle.typed_tree.specs.Tree as tree
 use Rattle.typed_tree.specs.Tree.{Statement, Stands, Head, Affinity, Items}
 use Rattle.source_meaning.specs.Running.{Running}
-use Rattle.source_meaning.specs.Statements.{Standing, with_strict, shapes_of, objects_in}
+use Rattle.source_meaning.specs.layer.Parts.{with_strict}
+use Rattle.source_meaning.specs.Statements.{Standing, shapes_of, objects_in}
 use Rattle.upc_meaning_state.specs.declared.progress.Step.{Step}
 use Rattle.upc_meaning_state.specs.declared.progress.Step.TheVariants.{Gives, Ends}
 use Rattle.upc_meaning_state.specs.layer.Came.{state_seen}

@@ -7,6 +7,7 @@ ghost use Rattle.typed_tree.specs.Tree.{AndExpr, Stands, exprs_of};
 ghost use Rattle.typed_tree.specs.ViewTree.{view_expr};
 ghost use Rattle.typed_tree.specs.ViewStatements as views;
 ghost use Rattle.source_meaning.specs.Statements as mean;
+ghost use Rattle.source_meaning.specs.layer.Parts as parts;
 ghost use Rattle.source_meaning.specs.Types as types;
 ghost use Rattle.upc_meaning_settings.specs.layer.Runners.{Fits};
 ghost use Rattle.upc_meaning_settings.specs.layer.Settings.{running_seen};
@@ -34,7 +35,7 @@ fn enter_block<'p>(
 ) -> Result<Step<()>, OutOfMemory>
     ensures { IfOk result (λ s. BlockWent standing.entry.count
         (mean.shapes_of (running_seen setting.entry) (mean.objects_in (views.view_items items.now))) place
-        (item.Parts (mean.with_strict strict (view_standing standing.entry)) (views.view_items items.now)
+        (item.Parts (parts.with_strict strict (view_standing standing.entry)) (views.view_items items.now)
         ∷ item.Leave ∷ []) (seen evaluation.old) s evaluation.new) }
 {
     let mut shapes = Shapes::new(setting.runner.alloc);

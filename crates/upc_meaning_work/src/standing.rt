@@ -3,6 +3,7 @@
 ghost use Rattle.std.specs.Prelude.{◌≡◌, IfOk, map};
 ghost use Rattle.typed_tree.specs.ViewStatements.{view_object};
 ghost use Rattle.source_meaning.specs.Statements as pure;
+ghost use Rattle.source_meaning.specs.layer.Parts as parts;
 ghost use Rattle.upc_meaning_work.specs.layer.ViewItems.{view_standing};
 
 use typed_tree::Object;
@@ -20,7 +21,7 @@ pub struct Standing<'p> {
 
 /// In a block whose accesses are strict or not.
 pub fn with_strict(strict: bool, standing: Standing<'_>) -> Standing<'_>
-    ensures { view_standing result ≡ pure.with_strict strict (view_standing standing.entry) }
+    ensures { view_standing result ≡ parts.with_strict strict (view_standing standing.entry) }
 {
     Standing {
         strict,

@@ -21,7 +21,8 @@ use Rattle.upc_values.specs.Records.{actions_of}
 use Rattle.upc_values.proofs.Drained.{read-entries}
 use Rattle.upc_values.proofs.Membership.{each-append}
 use Rattle.upc_values.proofs.Walks.{entries-all}
-use Rattle.thread_steps.specs.layer.Fronts.{turned, turned_by, IsInTurn}
+use Rattle.thread_steps.specs.layer.Fronts.{turned, IsInTurn}
+use Rattle.thread_steps.specs.layer.Parts.{turned_by}
 use Rattle.stack_code.specs.layer.Codes.{Codes}
 use Rattle.stack_machine.specs.declared.wish.Wish.TheVariants.{Act}
 use Rattle.memory_history.specs.layer.Turns.{takes_turn}

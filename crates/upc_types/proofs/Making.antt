@@ -3,10 +3,11 @@ use Rattle.std.proofs.Common.{◌≡◌, ℕ, zero, suc, ◌<◌, Bool, true, fa
 use Rattle.std.proofs.lemmas.Bool.{and_parts, not-true}
 use Rattle.std.proofs.lemmas.List.{reverse-append, reverse-reverse, length-reverse, length-map, map-append, get_or_at, get_or_append_left}
 use Rattle.upc_types.specs.declared.structs.Completed as d
+use Rattle.upc_types.specs.layer.Parts.{private_in}
 use Rattle.upc_types.specs.declared.layout.Known.{Known}
 use Rattle.upc_types.specs.Types.{Member, Completed, members_in}
 use Rattle.upc_types.specs.View.{view_completed, view_member}
-use Rattle.upc_types.specs.Layout.{known_in, complete_in, layout_in, all_complete, member_layouts, struct_layout, members_hold_private, private_in, end_behind}
+use Rattle.upc_types.specs.Layout.{known_in, complete_in, layout_in, all_complete, member_layouts, struct_layout, members_hold_private, end_behind}
 use Rattle.upc_types.specs.layer.Kept.{is_ordered}
 use Rattle.upc_types.specs.code.Starts.{starts_behind}
 use Rattle.upc_types.specs.code.Made.{IsMade, AreMade}

@@ -7,8 +7,9 @@ use Rattle.block_layout.specs.declared.kind.Kind.{Kind}
 use Rattle.block_layout.specs.declared.kind.Kind.TheVariants.{Char, UChar, Short, UShort, Int, UInt, Long, ULong, Shared, Lock, Private}
 use Rattle.block_layout.specs.Shapes.{kind_size}
 use Rattle.upc_types.specs.declared.layout.Layout.{Layout}
+use Rattle.upc_types.specs.layer.Parts.{private_in}
 use Rattle.upc_types.specs.Types.{Qualified, Base, Void, Integer, Struct, Array, Pointer, LockObject, base_of, Member, Completed}
-use Rattle.upc_types.specs.Layout.{most_bytes, aligned, end_behind, widest, pointer_size, base_layout, base_complete, complete_in, layout_in, layout_or_none, known_in, private_in, members_hold_private, struct_layout, member_layouts, base_within, members_from}
+use Rattle.upc_types.specs.Layout.{most_bytes, aligned, end_behind, widest, pointer_size, base_layout, base_complete, complete_in, layout_in, layout_or_none, known_in, members_hold_private, struct_layout, member_layouts, base_within, members_from}
 
 -- One part of a list that is gone through.
 pub next : {X Y : Type 0} (f : X → Y) (xs : List X) (i : ℕ) (x : X) → i < length xs → x ≡ get_or xs i x → map f (drop i xs) ≡ f x ∷ map f (drop (i + 1) xs)

@@ -3,9 +3,10 @@ use Rattle.std.proofs.Common.{◌≡◌, ℕ, ◌*◌, Bool, true, false, not, �
 use Rattle.std.proofs.lemmas.Bool.{eqb-true, and_parts, and_from, lt-ltb, not-true}
 use Rattle.block_layout.specs.declared.kind.Kind.{Kind}
 use Rattle.upc_types.specs.declared.layout.Known.{Known}
+use Rattle.upc_types.specs.layer.Parts.{private_in}
 use Rattle.upc_types.specs.declared.layout.Layout.{Layout}
 use Rattle.upc_types.specs.Types.{CType, Qualified, Base, Void, Integer, Struct, Array, Pointer, LockObject, base_of, Member, Completed, members_in}
-use Rattle.upc_types.specs.Layout.{base_layout, base_complete, known_in, layout_in, complete_in, layout_or_none, all_complete, member_layouts, struct_layout, members_hold_private, private_in}
+use Rattle.upc_types.specs.Layout.{base_layout, base_complete, known_in, layout_in, complete_in, layout_or_none, all_complete, member_layouts, struct_layout, members_hold_private}
 use Rattle.block_layout.specs.Cells.{copies}
 use Rattle.upc_types.specs.Cells.{leaf_base, leaf_cells, object_cells, member_cells, struct_cells, leaves}
 use Rattle.upc_types.specs.layer.Kept.{is_ordered}

@@ -3,9 +3,10 @@ use Rattle.std.proofs.Common.{◌≡◌, ℕ, ◌<◌, Bool, true, false, ◌==�
 use Rattle.std.proofs.lemmas.Bool.{eqb-true, eqb-false}
 use Rattle.std.proofs.lemmas.List.{reverse-append, length-reverse, get_or_at, get_or_append_left, get_or-set_same, get_or-set_other}
 use Rattle.upc_types.specs.declared.layout.Known.{Known}
+use Rattle.upc_types.specs.layer.Parts.{private_in}
 use Rattle.upc_types.specs.declared.layout.Layout.{Layout}
 use Rattle.upc_types.specs.Types.{Completed, Member, members_in}
-use Rattle.upc_types.specs.Layout.{known_in, private_in, members_hold_private, complete_in, layout_in, all_complete, member_layouts, struct_layout, members_within, most_bytes}
+use Rattle.upc_types.specs.Layout.{known_in, members_hold_private, complete_in, layout_in, all_complete, member_layouts, struct_layout, members_within, most_bytes}
 use Rattle.upc_types.specs.layer.Kept.{IsFine, IsKept}
 use Rattle.upc_types.proofs.Members.{some_is}
 use Rattle.std.specs.Option.{ForSome}

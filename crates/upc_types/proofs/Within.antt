@@ -3,11 +3,13 @@ use Rattle.std.proofs.Common.{◌≡◌, ℕ, ◌+◌, ◌*◌, ◌≤◌, Bool,
 use Rattle.block_layout.specs.declared.kind.Kind.{Kind}
 use Rattle.block_layout.specs.Shapes.{kind_size, CellsWithin}
 use Rattle.upc_types.specs.declared.layout.Layout.{Layout}
+use Rattle.upc_types.specs.layer.Parts.{private_in}
+use Rattle.upc_types.specs.Cells.{kind_to}
 use Rattle.upc_types.specs.declared.layout.Known.{Known}
 use Rattle.upc_types.specs.Types.{CType, Qualified, Base, Void, Integer, Struct, Array, Pointer, LockObject, base_of, Member, Completed}
-use Rattle.upc_types.specs.Layout.{aligned, end_behind, widest, pointer_size, base_layout, known_in, layout_in, layout_or_none, member_layouts, struct_layout, members_hold_private, private_in}
+use Rattle.upc_types.specs.Layout.{aligned, end_behind, widest, pointer_size, base_layout, known_in, layout_in, layout_or_none, member_layouts, struct_layout, members_hold_private}
 use Rattle.block_layout.specs.Cells.{moved}
-use Rattle.upc_types.specs.Cells.{kind_to, pointer_kind, number_of, leaf_base, leaves, leaf_cells, object_cells, member_cells, struct_cells}
+use Rattle.upc_types.specs.Cells.{pointer_kind, number_of, leaf_base, leaves, leaf_cells, object_cells, member_cells, struct_cells}
 use Rattle.block_layout.proofs.Within.{wider_within, append_within, moved_within, copies_within}
 use Rattle.upc_types.proofs.Members.{aligned_low, alignment_some, grow, widest_low}
 

@@ -27,13 +27,9 @@ abbrev pub IsItsOwn : List CType → CType → ℕ → Type 0
 IsItsOwn targets t number = number < length targets → (other : CType)
     → (number_of targets other ≡ number) ↔ (alike t other ≡ true)
 
--- Whether this target of pointers, or one that is alike, has a number.
-abbrev pub is_noted : List CType → CType → Bool
-is_noted targets t = nat_lt (number_of targets t) (length targets)
-
 -- The targets with numbers after this one was given a number, where none that is alike had one.
 abbrev pub noted : List CType → CType → List CType
-noted targets t = if is_noted targets t then targets else targets ++ (t ∷ [])
+noted targets t = if nat_lt (number_of targets t) (length targets) then targets else targets ++ (t ∷ [])
 
 -- The kind of the cell of a pointer whose target has this base and this block, and whose type has this number.
 abbrev pub kind_to : Base → Option ℕ → ℕ → Kind

@@ -46,7 +46,6 @@ pointer_size b None = 8
 -- The size and alignment of a type, where those of each struct are known; an array has the size of all its elements and
 -- the alignment of one (C99 6.5.3.4).
 abbrev pub base_layout : (ℕ → Layout) → Base → Layout
-base_layout structs Void = no_layout
 base_layout structs (Integer kind) = scalar (kind_size kind)
 base_layout structs (Struct number) = structs number
 base_layout structs (Array (Qualified e c s x) count) = record {
@@ -54,16 +53,15 @@ base_layout structs (Array (Qualified e c s x) count) = record {
   align = (base_layout structs e).align;
 }
 base_layout structs (Pointer (Qualified target c s x)) = scalar (pointer_size target s)
-base_layout structs LockObject = no_layout
+base_layout structs b = no_layout
 
 -- Whether a type is complete, where it is known which structs are (C99 6.2.5).
 abbrev pub base_complete : (ℕ → Bool) → Base → Bool
-base_complete structs Void = false
 base_complete structs (Integer kind) = true
 base_complete structs (Struct number) = structs number
 base_complete structs (Array (Qualified e c s x) count) = nat_lt 0 count && base_complete structs e
 base_complete structs (Pointer target) = true
-base_complete structs LockObject = false
+base_complete structs b = false
 
 -- The layouts of members in order, where that of each struct is known.
 abbrev pub member_layouts : (ℕ → Layout) → List Member → List Layout
@@ -74,14 +72,10 @@ abbrev pub layout_or_none : Option Known → Layout
 layout_or_none None = no_layout
 layout_or_none (Some k) = k.layout
 
--- Whether a pointer to this target leads to a private object: neither to a shared object nor to a lock.
-abbrev pub is_private_target : CType → Bool
-is_private_target (Qualified b c s x) = not (is_some s) && not (is_lock_object b)
-
--- Whether an object of a type is a pointer to a private object, or holds one in a member or an element, where it is
--- known of which structs that is so (UPC 6.5.1.1).
+-- Whether an object of a type is a pointer to a private object, which leads neither to a shared object nor to a lock,
+-- or holds one in a member or an element, where it is known of which structs that is so (UPC 6.5.1.1).
 abbrev pub base_holds_private : (ℕ → Bool) → Base → Bool
-base_holds_private structs (Pointer t) = is_private_target t
+base_holds_private structs (Pointer (Qualified b c s x)) = not (is_some s) && not (is_lock_object b)
 base_holds_private structs (Struct number) = structs number
 base_holds_private structs (Array (Qualified e c s x) count) = base_holds_private structs e
 base_holds_private structs b = false
@@ -127,10 +121,6 @@ abbrev pub member_offset : Structs → (number member : ℕ) → ℕ
 member_offset structs number member =
     offset_behind 0 (member_layouts (layout_in structs.completed) (members_of structs number)) member
 
--- Whether an object of the struct with this number holds a pointer to a private object.
-abbrev pub private_in : List Completed → ℕ → Bool
-private_in completed number = private_or_not (known_in completed number)
-
 -- Whether the struct with this number is complete (C99 6.2.5, 6.7.2.3).
 abbrev pub complete_in : List Completed → ℕ → Bool
 complete_in completed number = is_some (known_in completed number)
@@ -141,7 +131,7 @@ is_complete structs t = base_complete (complete_in structs.completed) (base_of t
 
 -- Whether an object of a type is a pointer to a private object, or holds one in a member or an element (UPC 6.5.1.1).
 abbrev pub holds_private : Structs → CType → Bool
-holds_private structs t = base_holds_private (private_in structs.completed) (base_of t)
+holds_private structs t = base_holds_private (λ n. private_or_not (known_in structs.completed n)) (base_of t)
 
 -- The size of a type in bytes, 0 where it is incomplete (C99 6.5.3.4).
 abbrev pub size : Structs → CType → ℕ

@@ -89,8 +89,9 @@ impl Structs {
     ghost use Rattle.std.specs.Prelude.{map, is_some};
     ghost use Rattle.upc_types.specs.Cells.{IsItsOwn, number_of, pointer_kind, struct_cells, with_target};
     ghost use Rattle.upc_types.specs.Layout.{base_within, members_within, known_in, base_complete, base_layout};
-    ghost use Rattle.upc_types.specs.Layout.{complete_in, layout_in, most_bytes, is_private_target};
-    ghost use Rattle.upc_types.specs.Layout.{base_holds_private, members_hold_private, private_in, member_offset};
+    ghost use Rattle.upc_types.specs.Layout.{complete_in, layout_in, most_bytes};
+    ghost use Rattle.upc_types.specs.layer.Parts.{is_private_target, private_in};
+    ghost use Rattle.upc_types.specs.Layout.{base_holds_private, members_hold_private, member_offset};
     ghost use Rattle.upc_types.specs.layer.Kept.{IsFine};
     ghost use Rattle.upc_types.specs.Layout.{end_behind, member_layouts};
     ghost use Rattle.upc_types.specs.code.Made.{IsMade};

@@ -9,6 +9,7 @@ use Rattle.block_layout.specs.declared.kind.Kind.TheVariants as kind
 use Rattle.block_layout.specs.declared.kind.Shape.{Shape}
 use Rattle.block_layout.specs.Pointers.{null, location}
 use Rattle.upc_values.specs.declared.scalar.Scalar.{Scalar}
+use Rattle.upc_values.specs.layer.Parts.{shared_area, local_area}
 use Rattle.upc_values.specs.declared.scalar.Scalar.TheVariants.{Int, Shared, Lock}
 use Rattle.upc_values.specs.declared.scalar.Mark.TheVariants.{Absent, Given}
 use Rattle.upc_values.specs.declared.action.Action.{Action}
@@ -20,7 +21,7 @@ use Rattle.upc_values.specs.Drain.{entry_of}
 use Rattle.upc_values.specs.Openings.{Opening}
 use Rattle.upc_values.specs.History.{reply}
 use Rattle.upc_values.specs.Expansion.{Expansion, Gives, Fails, Reads, Asks, Loads, Stores, value_in}
-use Rattle.upc_values.specs.Copying.{copy, set, shared_area, local_area}
+use Rattle.upc_values.specs.Copying.{copy, set}
 use Rattle.upc_values.specs.Expansions.{Part, parts, collective}
 use Rattle.upc_values.specs.Calls.{Gather, Gather_all, Exchange}
 use Rattle.upc_values.specs.Views.{byte_at, destination}

@@ -48,11 +48,6 @@ is_int v = in_kind kind.Int v
 abbrev pub way_of : ℕ → Option Way
 way_of c = under c ((5, Broadcast) ∷ (6, Scatter) ∷ (7, Gather) ∷ (8, Gather_all) ∷ (9, Exchange) ∷ [])
 
--- The collective call that copies in this way; without a way there is none.
-abbrev pub copies : Option Way → SharedPtr → SharedPtr → ℕ → ℤ → Call
-copies (Some w) dst src n f = Copies w dst src n f
-copies None dst src n f = Other
-
 -- The collective call with this number and these arguments, if they are of its parameters' types and in their ranges
 -- (UPC 7.2.2, 7.2.4, 7.3).
 abbrev pub call_of : ℕ → List Scalar → Call
@@ -63,7 +58,8 @@ call_of c [] = cond (c == 2) Makes_lock Other
 call_of c (Shared p ∷ []) = cond (c == 3) (Frees p) Other
 call_of c (Lock l ∷ []) = cond (c == 4) (Frees_lock l) Other
 call_of c (Shared dst ∷ Shared src ∷ Int n ∷ Int f ∷ []) =
-    cond (is_size n && is_int f) (copies (way_of c) dst src (unsigned_abs n) f) Other
+    cond (is_size n && is_int f)
+    (elim (way_of c) [ Some w ↦ Copies w dst src (unsigned_abs n) f | None ↦ Other ]) Other
 call_of c (Shared dst ∷ Shared src ∷ Shared perm ∷ Int n ∷ Int f ∷ []) =
     cond ((c == 10) && (is_size n && is_int f)) (Permutes dst src perm (unsigned_abs n) f) Other
 call_of c (Shared dst ∷ Shared src ∷ Int op ∷ Int n ∷ Int b ∷ Int k ∷ Int f ∷ []) =

@@ -26,17 +26,6 @@ pub data Area : Type 0 where
   In_shared : (p : SharedPtr) → Area
   In_private : (object : ℕ) (offset : ℤ) → Area
 
--- Where a pointer-to-shared leads; null leads nowhere.
-abbrev pub shared_area : SharedPtr → Area
-shared_area p = cond (is_null p) Nowhere (In_shared p)
-
--- Where a pointer-to-local leads: into a private object, or into shared space (UPC 6.4.3); null leads nowhere.
-abbrev pub local_area : LocalPtr → Area
-local_area Null = Nowhere
-local_area (Private object offset) = In_private object offset
-local_area (Shared object thread offset) =
-    In_shared (record { object = object; thread = thread; phase = 0; offset = offset })
-
 -- The area is nowhere.
 abbrev pub is_nowhere : Area → Bool
 is_nowhere Nowhere = true
@@ -53,14 +42,10 @@ module _ (threads : ℕ) (shapes : List Shape) (private : Option Shape) where
   leaves_shared n (In_shared p) = leaves_piece threads n p
   leaves_shared n a = false
 
-  -- There is an object of this shape, and the n bytes from the offset on lie inside it.
-  abbrev pub is_inside : Option Shape → ℤ → ℕ → Bool
-  is_inside (Some s) offset n = is_within offset n s.size
-  is_inside None offset n = false
-
   -- The area is in a private object, which has ended, or in which the n bytes from its beginning on do not all lie.
   abbrev pub leaves_private : ℕ → Area → Bool
-  leaves_private n (In_private object offset) = not (is_inside private offset n)
+  leaves_private n (In_private object offset) =
+      not (elim private [ Some s ↦ is_within offset n s.size | None ↦ false ])
   leaves_private n a = false
 
   -- The shape whose cells lie in an area: that of a shared object's elements, or that of a private object; there is

@@ -37,14 +37,9 @@ bind (Stores p k v after) go = Stores p k v (bind after go)
 abbrev pub nothing : Expansion (Unit {0})
 nothing = Gives tt
 
--- A reply that refuses is its run error, and after any other the call goes on.
-abbrev pub unless_refused : Reply → Expansion (Unit {0})
-unless_refused (Refused c) = Fails c
-unless_refused r = nothing
-
 -- An action whose reply says no more than whether it was refused, which is its run error.
 abbrev pub does : Action → Expansion (Unit {0})
-does a = Asks a unless_refused
+does a = Asks a (λ r. elim r [ Refused c ↦ Fails c | _ ↦ nothing ])
 
 -- A notify and a wait without a value (UPC 6.6.1).
 abbrev pub barrier : Expansion (Unit {0})

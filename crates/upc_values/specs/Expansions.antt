@@ -124,10 +124,6 @@ module _ (threads : ℕ) (shapes : List Shape) (me : ℕ) where
   parts Exchange dst src n =
       map (λ j. goes Exchange dst src n (j * (n * threads) + me * n) (me * (n * threads) + j * n)) all_threads
 
-  -- The n bytes from a pointer on do not all lie in the piece of its thread (UPC 6.5.1.1).
-  abbrev pub outside : ℕ → SharedPtr → Bool
-  outside n p = leaves_piece threads n p
-
   -- A cell is cut at either end of n bytes from a pointer on.
   abbrev pub cut : ℕ → SharedPtr → Bool
   cut n p = cuts_cell (shape_at shapes p) (unsigned_abs p.offset) n
@@ -152,7 +148,7 @@ module _ (threads : ℕ) (shapes : List Shape) (me : ℕ) where
   move n xs =
       refused_by
       ((list_any (λ x. leaves_range n x.into || leaves_range n x.from) xs, POINTER_RANGE)
-      ∷ (list_any (λ x. outside n x.into || outside n x.from) xs, OUT_OF_OBJECT)
+      ∷ (list_any (λ x. leaves_piece threads n x.into || leaves_piece threads n x.from) xs, OUT_OF_OBJECT)
       ∷ (list_any (differ n) xs, CELL_TYPE)
       ∷ [])
       (each_in_turn (copied n) xs)
@@ -161,14 +157,9 @@ module _ (threads : ℕ) (shapes : List Shape) (me : ℕ) where
   abbrev pub some_bytes : ℕ → Expansion (Unit {0}) → Expansion (Unit {0})
   some_bytes n work = cond (n == 0) nothing work
 
-  -- The integer that an element of a view is; what is none counts as 0.
-  abbrev pub number_of : Scalar → ℤ
-  number_of (Int v) = v
-  number_of v = pos 0
-
-  -- The read of an element of a view as an integer.
+  -- The read of an element of a view as an integer; what is none counts as 0.
   abbrev pub number_at : Kind → SharedPtr → Expansion ℤ
-  number_at k p = Reads (location p) k (λ v. Gives (number_of v))
+  number_at k p = Reads (location p) k (λ v. Gives (elim v [ Int i ↦ i | _ ↦ pos 0 ]))
 
   -- The write of an integer to an element of a view.
   abbrev pub number_put : SharedPtr → ℤ → Expansion (Unit {0})
@@ -179,18 +170,10 @@ module _ (threads : ℕ) (shapes : List Shape) (me : ℕ) where
   are_cells k ps go =
       refused_by
       ((list_any (leaves_range (kind_size k)) ps, POINTER_RANGE)
-      ∷ (list_any (outside (kind_size k)) ps, OUT_OF_OBJECT)
+      ∷ (list_any (leaves_piece threads (kind_size k)) ps, OUT_OF_OBJECT)
       ∷ (list_any (λ p. not (is_cell shapes k p)) ps, CELL_TYPE)
       ∷ [])
       go
-
-  -- The elements of the permutation of upc_all_permute, one int for each thread (UPC 7.3).
-  abbrev pub permutation : SharedPtr → List SharedPtr
-  permutation perm = map (λ i. element (from_phase_0 perm) 1 4 threads i) all_threads
-
-  -- The number of thread t is in the list.
-  abbrev pub is_at : ℕ → List ℤ → Bool
-  is_at t vs = list_any (λ v. int_eq v (pos t)) vs
 
   -- The part by which block i of the source goes to the thread's block, where element i of the permutation is the
   -- thread's number.
@@ -198,29 +181,25 @@ module _ (threads : ℕ) (shapes : List Shape) (me : ℕ) where
   chosen dst src n vs =
       part (byte_at dst n threads (me * n)) (byte_at src n threads (position_or_len (λ v. int_eq v (pos me)) vs * n))
 
-  -- What upc_all_permute does on a thread: it tests the permutation's elements and the thread's block, reads the
-  -- permutation and tests it, and copies (UPC 7.3).
+  -- What upc_all_permute does on a thread: it tests the elements of the permutation, one int for each thread, and the
+  -- thread's block, reads the permutation and tests that the number of each thread is in it, and copies (UPC 7.3).
   abbrev pub permute : SharedPtr → SharedPtr → SharedPtr → ℕ → Expansion (Unit {0})
   permute dst src perm n =
-      let ps = permutation perm in
+      let ps = map (λ i. element (from_phase_0 perm) 1 4 threads i) all_threads in
       let own = byte_at dst n threads (me * n) in
       let some = not (n == 0) in
       let go : List ℤ → Expansion (Unit {0}) = λ vs. some_bytes n (move n (chosen dst src n vs ∷ [])) in
       refused_by
       ((list_any (leaves_range 4) ps || (some && leaves_range n own), POINTER_RANGE)
-      ∷ (list_any (outside 4) ps || (some && outside n own), OUT_OF_OBJECT)
+      ∷ (list_any (leaves_piece threads 4) ps || (some && leaves_piece threads n own), OUT_OF_OBJECT)
       ∷ (list_any (λ p. not (is_cell shapes kind.Int p)) ps || (some && cut n own), CELL_TYPE)
       ∷ [])
       (bind (gathered (number_at kind.Int) ps) (λ vs.
-      refused_by ((not (each_thread threads (λ t. is_at t vs)), LIBRARY_ARGS) ∷ []) (go vs)))
-
-  -- The pointer to element i of the view of a reduction's operand.
-  abbrev pub operand : SharedPtr → ℕ → ℕ → ℕ → SharedPtr
-  operand p blk k i = element (with_block p blk) blk (kind_size (element_kind k)) threads i
+      refused_by ((not (each_thread threads (λ t. list_any (λ v. int_eq v (pos t)) vs)), LIBRARY_ARGS) ∷ []) (go vs)))
 
   -- The pointers to the first n elements of the view of a reduction's operand.
   abbrev pub operands : SharedPtr → ℕ → ℕ → ℕ → List SharedPtr
-  operands p blk k n = map (operand p blk k) (range_with_len 0 n)
+  operands p blk k n = map (element (with_block p blk) blk (kind_size (element_kind k)) threads) (range_with_len 0 n)
 
   -- The value of a step of a reduction, or its run error.
   abbrev pub outcome : Result ℤ ℕ → Expansion ℤ

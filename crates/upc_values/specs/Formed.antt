@@ -157,11 +157,6 @@ fits threads shapes k (act.Print x) Done = true
 fits threads shapes k (act.Exit v) Done = true
 fits threads shapes k a r = false
 
--- The kind of the cell that an action reads after a history, where it reads one.
-abbrev pub kind_read : Opening → List Entry → Action → Option Kind
-kind_read o es (act.Read l s) = cell_of o (objects o es) l
-kind_read o es a = None
-
--- The reply fits the action after a history.
+-- The reply fits the action after a history, where a read is of the cell that it reads then.
 abbrev pub fits_after : Opening → List Entry → Action → Reply → Bool
-fits_after o es a r = fits o.threads o.shapes (kind_read o es a) a r
+fits_after o es a r = fits o.threads o.shapes (elim a [ act.Read l s ↦ cell_of o (objects o es) l | _ ↦ None ]) a r

@@ -1,9 +1,9 @@
 -- What each call of the library does on the calling thread, and the value that it gives (UPC 7.2, 7.3).
 use Rattle.std.specs.Prelude.{ℕ, ◌*◌, ◌==◌, nat_le, ℤ, pos, ◌+ℤ◌, unsigned_abs, not, ◌&&◌, ◌||◌, if◌then◌else◌, List}
-use Rattle.std.specs.Prelude.{[], ◌∷◌, Option, Some, None, slice_get}
+use Rattle.std.specs.Prelude.{cond, [], ◌∷◌, Option, Some, None, slice_get}
 use Rattle.std.specs.List.{filter_map}
 use Rattle.block_layout.specs.declared.place.ObjectRef.{ObjectRef}
-use Rattle.block_layout.specs.declared.place.SharedPtr.{SharedPtr}
+use Rattle.block_layout.specs.declared.place.LocalPtr.TheVariants as local
 use Rattle.block_layout.specs.declared.kind.Kind.TheVariants as kind
 use Rattle.block_layout.specs.declared.kind.Shape.{Shape}
 use Rattle.block_layout.specs.declared.run_error.TheConstants.{NULL_ACCESS, CELL_TYPE, LIBRARY_ARGS}
@@ -26,12 +26,8 @@ use Rattle.upc_values.specs.declared.library.LibraryCall.TheVariants as call
 use Rattle.upc_values.specs.Scalars.{zero}
 use Rattle.upc_values.specs.Formed.{is_whole}
 use Rattle.upc_values.specs.Expansion.{Expansion, Gives, Fails, Asks, bind, refused_by}
-use Rattle.upc_values.specs.Copying.{Area, Nowhere, In_private, shared_area, local_area, copy, set}
+use Rattle.upc_values.specs.Copying.{Area, Nowhere, In_shared, In_private, copy, set}
 use Rattle.upc_values.specs.Expansions.{is_large, collective}
-
--- A number as a call gives it where its result is an int.
-abbrev pub as_int : ℤ → Scalar
-as_int v = Int (converted kind.Int v)
 
 -- A number as a call gives it where its result is a size_t.
 abbrev pub as_size : ℤ → Scalar
@@ -42,7 +38,7 @@ as_size v = Int (converted kind.ULong v)
 abbrev pub given_by : Reply → Expansion Scalar
 given_by reply.Done = Gives zero
 given_by (reply.Value v) = Gives v
-given_by (reply.Flag b) = Gives (as_int (truth b))
+given_by (reply.Flag b) = Gives (Int (converted kind.Int (truth b)))
 given_by (reply.Refused c) = Fails c
 
 -- One action, whose reply gives the value.
@@ -53,18 +49,6 @@ asks a = Asks a given_by
 abbrev pub valued : Expansion (Unit {0}) → Expansion Scalar
 valued x = bind x (λ u. Gives zero)
 
--- What upc_threadof gives: the thread of a pointer-to-shared, 0 for null, which has zeros throughout (UPC 7.2.3).
-abbrev pub thread_of : SharedPtr → Expansion Scalar
-thread_of p = Gives (as_size (pos p.thread))
-
--- What upc_phaseof gives: the phase of a pointer-to-shared, 0 for null (UPC 7.2.3).
-abbrev pub phase_of : SharedPtr → Expansion Scalar
-phase_of p = Gives (as_size (pos p.phase))
-
--- What upc_addrfield gives: the bytes of all objects with lower numbers, and the offset; 0 for null (UPC 7.2.3).
-abbrev pub address_field : SharedPtr → Expansion Scalar
-address_field p = Gives (as_size (pos p.object.base +ℤ p.offset))
-
 -- An object of so many bytes with this block in bytes, 0 being indefinite, that begins on thread 0.
 abbrev pub laid_out : ℕ → ℕ → ObjectRef
 laid_out total block = record { number = 0; total = total; block = block; home = 0; shape = 0; base = 0 }
@@ -73,56 +57,18 @@ laid_out total block = record { number = 0; total = total; block = block; home =
 abbrev pub with_lock : ℕ → Expansion Scalar → Expansion Scalar
 with_lock l go = refused_by ((l == 0, NULL_ACCESS) ∷ []) go
 
--- What upc_free does: one Free; on null nothing (UPC 7.2.2).
-abbrev pub free : SharedPtr → Expansion Scalar
-free p = if is_null p then Gives zero else asks (act.Free p)
-
--- What upc_all_free does: all threads meet, on null too (UPC 7.2.2).
-abbrev pub all_free : SharedPtr → Expansion Scalar
-all_free p = asks (act.Meet 3 (Shared p ∷ []))
-
--- What upc_global_lock_alloc does: it makes one new lock (UPC 7.2.4).
-abbrev pub global_lock_alloc : Expansion Scalar
-global_lock_alloc = asks act.LockMake
-
--- What upc_all_lock_alloc does: all threads meet, and get one lock (UPC 7.2.4).
-abbrev pub all_lock_alloc : Expansion Scalar
-all_lock_alloc = asks (act.Meet 2 [])
-
--- What upc_lock does: one Lock (UPC 7.2.4).
-abbrev pub lock : ℕ → Expansion Scalar
-lock l = with_lock l (asks (act.Lock l))
-
--- What upc_lock_attempt does: one Attempt; it gives 1 where the lock was taken, else 0 (UPC 7.2.4).
-abbrev pub lock_attempt : ℕ → Expansion Scalar
-lock_attempt l = with_lock l (asks (act.Attempt l))
-
--- What upc_unlock does: one Unlock (UPC 7.2.4).
-abbrev pub unlock : ℕ → Expansion Scalar
-unlock l = with_lock l (asks (act.Unlock l))
-
--- What upc_lock_free does: one LockFree; on null nothing (UPC 7.2.4).
-abbrev pub lock_free : ℕ → Expansion Scalar
-lock_free l = if l == 0 then Gives zero else asks (act.LockFree l)
-
--- What upc_all_lock_free does: all threads meet, on null too (UPC 7.2.4).
-abbrev pub all_lock_free : ℕ → Expansion Scalar
-all_lock_free l = asks (act.Meet 4 (Lock l ∷ []))
-
--- Where a value leads as a pointer; what is no pointer leads nowhere.
+-- Where a value leads as a pointer: a pointer-to-local into a private object, or into shared space (UPC 6.4.3); null,
+-- and what is no pointer, lead nowhere.
 abbrev pub area_of : Value → Area
-area_of (value.Scalar (Shared p)) = shared_area p
-area_of (value.Local p) = local_area p
+area_of (value.Scalar (Shared p)) = cond (is_null p) Nowhere (In_shared p)
+area_of (value.Local (local.Private object offset)) = In_private object offset
+area_of (value.Local (local.Shared object thread offset)) =
+    In_shared (record { object = object; thread = thread; phase = 0; offset = offset })
 area_of v = Nowhere
 
--- The scalar that a value is, if it is no pointer-to-local.
-abbrev pub scalar_of : Value → Option Scalar
-scalar_of (value.Scalar v) = Some v
-scalar_of (value.Local p) = None
-
--- The scalars among some values, in order.
+-- The scalars among some values, in order; a pointer-to-local is none.
 abbrev pub scalars : List Value → List Scalar
-scalars vs = filter_map scalar_of vs
+scalars vs = filter_map (λ v. elim v [ value.Scalar s ↦ Some s | value.Local p ↦ None ]) vs
 
 -- The number of an element type among C UC S US I UI L UL, from 0 (UPC 7.3.2.1).
 abbrev pub element_number : ElementKind → ℕ
@@ -182,10 +128,6 @@ module _ (threads : ℕ) (shapes : List Shape) (me : ℕ) (private : ℕ → Opt
       then Gives (Shared null)
       else in_elements shape nblocks nbytes (asks (act.Alloc nblocks nbytes home shape))
 
-  -- What upc_global_alloc does: it makes an array of `nblocks` blocks of `nbytes` bytes each (UPC 7.2.2).
-  abbrev pub global_alloc : (shape nblocks nbytes : ℕ) → Expansion Scalar
-  global_alloc shape nblocks nbytes = allocation None shape nblocks nbytes
-
   -- What upc_all_alloc does: all threads meet, for no byte too, and get one array of `nblocks` blocks of `nbytes` bytes
   -- each (UPC 7.2.2).
   abbrev pub all_alloc : (shape nblocks nbytes : ℕ) → Expansion Scalar
@@ -193,30 +135,10 @@ module _ (threads : ℕ) (shapes : List Shape) (me : ℕ) (private : ℕ → Opt
       in_elements shape nblocks nbytes
       (asks (act.Meet 1 (Int (pos nblocks) ∷ Int (pos nbytes) ∷ Int (pos shape) ∷ [])))
 
-  -- What upc_alloc does: it makes `nbytes` bytes on the calling thread, of indefinite block (UPC 7.2.2).
-  abbrev pub alloc : (shape nbytes : ℕ) → Expansion Scalar
-  alloc shape nbytes = allocation (Some me) shape 1 nbytes
-
   -- The shape of the private object in which an area lies.
   abbrev pub private_shape : Area → Option Shape
   private_shape (In_private object offset) = private object
   private_shape a = None
-
-  -- What upc_memcpy does: it copies bytes of a shared object to a shared object (UPC 7.2.5).
-  abbrev pub memcpy : (dst src : Area) (n : ℕ) → Expansion Scalar
-  memcpy dst src n = valued (copy threads shapes None dst src n)
-
-  -- What upc_memget does: it copies bytes of a shared object to a private one (UPC 7.2.5).
-  abbrev pub memget : (dst src : Area) (n : ℕ) → Expansion Scalar
-  memget dst src n = valued (copy threads shapes (private_shape dst) dst src n)
-
-  -- What upc_memput does: it copies bytes of a private object to a shared one (UPC 7.2.5).
-  abbrev pub memput : (dst src : Area) (n : ℕ) → Expansion Scalar
-  memput dst src n = valued (copy threads shapes (private_shape src) dst src n)
-
-  -- What upc_memset does: it sets bytes of a shared object to c as an unsigned char (UPC 7.2.5).
-  abbrev pub memset : (dst : Area) (c : ℤ) (n : ℕ) → Expansion Scalar
-  memset dst c n = valued (set threads shapes None dst (unsigned_abs (converted kind.UChar c)) n)
 
   -- What the collective calls 5 to 12 do, upc_all_broadcast to upc_all_prefix_reduce (UPC 7.3).
   abbrev pub together : (c : ℕ) → List Value → Expansion Scalar
@@ -226,33 +148,52 @@ module _ (threads : ℕ) (shapes : List Shape) (me : ℕ) (private : ℕ → Opt
   -- shape with this number. A printf, which has a format, and upc_global_exit, which ends the thread, are not among
   -- them (UPC 7.2, 7.3).
   abbrev pub library_call : LibraryCall → (shape : ℕ) → List Value → Expansion Scalar
-  library_call call.ThreadOf shape (value.Scalar (Shared p) ∷ []) = thread_of p
-  library_call call.PhaseOf shape (value.Scalar (Shared p) ∷ []) = phase_of p
-  library_call call.AddressField shape (value.Scalar (Shared p) ∷ []) = address_field p
+  -- upc_threadof: the thread of a pointer-to-shared, 0 for null, which has zeros throughout (UPC 7.2.3)
+  library_call call.ThreadOf shape (value.Scalar (Shared p) ∷ []) = Gives (as_size (pos p.thread))
+  -- upc_phaseof: the phase of a pointer-to-shared, 0 for null (UPC 7.2.3)
+  library_call call.PhaseOf shape (value.Scalar (Shared p) ∷ []) = Gives (as_size (pos p.phase))
+  -- upc_addrfield: the bytes of all objects with lower numbers, and the offset; 0 for null (UPC 7.2.3)
+  library_call call.AddressField shape (value.Scalar (Shared p) ∷ []) = Gives (as_size (pos p.object.base +ℤ p.offset))
   library_call call.AffinitySize shape (value.Scalar (Int n) ∷ value.Scalar (Int b) ∷ value.Scalar (Int t) ∷ []) =
       affinity_size (unsigned_abs n) (unsigned_abs b) (unsigned_abs t)
+  -- upc_global_alloc: it makes an array of n blocks of b bytes each (UPC 7.2.2)
   library_call call.GlobalAlloc shape (value.Scalar (Int n) ∷ value.Scalar (Int b) ∷ []) =
-      global_alloc shape (unsigned_abs n) (unsigned_abs b)
+      allocation None shape (unsigned_abs n) (unsigned_abs b)
   library_call call.AllAlloc shape (value.Scalar (Int n) ∷ value.Scalar (Int b) ∷ []) =
       all_alloc shape (unsigned_abs n) (unsigned_abs b)
-  library_call call.Alloc shape (value.Scalar (Int b) ∷ []) = alloc shape (unsigned_abs b)
-  library_call call.Free shape (value.Scalar (Shared p) ∷ []) = free p
-  library_call call.AllFree shape (value.Scalar (Shared p) ∷ []) = all_free p
-  library_call call.GlobalLockAlloc shape [] = global_lock_alloc
-  library_call call.AllLockAlloc shape [] = all_lock_alloc
-  library_call call.Lock shape (value.Scalar (Lock l) ∷ []) = lock l
-  library_call call.LockAttempt shape (value.Scalar (Lock l) ∷ []) = lock_attempt l
-  library_call call.Unlock shape (value.Scalar (Lock l) ∷ []) = unlock l
-  library_call call.LockFree shape (value.Scalar (Lock l) ∷ []) = lock_free l
-  library_call call.AllLockFree shape (value.Scalar (Lock l) ∷ []) = all_lock_free l
+  -- upc_alloc: it makes b bytes on the calling thread, of indefinite block (UPC 7.2.2)
+  library_call call.Alloc shape (value.Scalar (Int b) ∷ []) = allocation (Some me) shape 1 (unsigned_abs b)
+  -- upc_free: one Free; on null nothing (UPC 7.2.2)
+  library_call call.Free shape (value.Scalar (Shared p) ∷ []) = if is_null p then Gives zero else asks (act.Free p)
+  -- upc_all_free: all threads meet, on null too (UPC 7.2.2)
+  library_call call.AllFree shape (value.Scalar (Shared p) ∷ []) = asks (act.Meet 3 (Shared p ∷ []))
+  -- upc_global_lock_alloc: it makes one new lock (UPC 7.2.4)
+  library_call call.GlobalLockAlloc shape [] = asks act.LockMake
+  -- upc_all_lock_alloc: all threads meet, and get one lock (UPC 7.2.4)
+  library_call call.AllLockAlloc shape [] = asks (act.Meet 2 [])
+  -- upc_lock: one Lock (UPC 7.2.4)
+  library_call call.Lock shape (value.Scalar (Lock l) ∷ []) = with_lock l (asks (act.Lock l))
+  -- upc_lock_attempt: one Attempt; it gives 1 where the lock was taken, else 0 (UPC 7.2.4)
+  library_call call.LockAttempt shape (value.Scalar (Lock l) ∷ []) = with_lock l (asks (act.Attempt l))
+  -- upc_unlock: one Unlock (UPC 7.2.4)
+  library_call call.Unlock shape (value.Scalar (Lock l) ∷ []) = with_lock l (asks (act.Unlock l))
+  -- upc_lock_free: one LockFree; on null nothing (UPC 7.2.4)
+  library_call call.LockFree shape (value.Scalar (Lock l) ∷ []) = if l == 0 then Gives zero else asks (act.LockFree l)
+  -- upc_all_lock_free: all threads meet, on null too (UPC 7.2.4)
+  library_call call.AllLockFree shape (value.Scalar (Lock l) ∷ []) = asks (act.Meet 4 (Lock l ∷ []))
+  -- upc_memcpy: it copies bytes of a shared object to a shared object (UPC 7.2.5)
   library_call call.Memcpy shape (dst ∷ src ∷ value.Scalar (Int n) ∷ []) =
-      memcpy (area_of dst) (area_of src) (unsigned_abs n)
+      valued (copy threads shapes None (area_of dst) (area_of src) (unsigned_abs n))
+  -- upc_memget: it copies bytes of a shared object to a private one (UPC 7.2.5)
   library_call call.Memget shape (dst ∷ src ∷ value.Scalar (Int n) ∷ []) =
-      memget (area_of dst) (area_of src) (unsigned_abs n)
+      valued (copy threads shapes (private_shape (area_of dst)) (area_of dst) (area_of src) (unsigned_abs n))
+  -- upc_memput: it copies bytes of a private object to a shared one (UPC 7.2.5)
   library_call call.Memput shape (dst ∷ src ∷ value.Scalar (Int n) ∷ []) =
-      memput (area_of dst) (area_of src) (unsigned_abs n)
+      valued (copy threads shapes (private_shape (area_of src)) (area_of dst) (area_of src) (unsigned_abs n))
+  -- upc_memset: it sets bytes of a shared object to c as an unsigned char (UPC 7.2.5)
   library_call call.Memset shape (dst ∷ value.Scalar (Int c) ∷ value.Scalar (Int n) ∷ []) =
-      memset (area_of dst) c (unsigned_abs n)
+      valued (set threads shapes None (area_of dst) (unsigned_abs (converted kind.UChar c)) (unsigned_abs n))
+  -- the collective calls 5 to 12, upc_all_broadcast to upc_all_prefix_reduce (UPC 7.3)
   library_call call.Broadcast shape args = together 5 args
   library_call call.Scatter shape args = together 6 args
   library_call call.Gather shape args = together 7 args

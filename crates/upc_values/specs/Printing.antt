@@ -34,18 +34,13 @@ width_of (a ∷ []) = if a == 48 then None else Some (a - 48)
 width_of (a ∷ b ∷ []) = if a == 48 then None else Some (10 * (a - 48) + (b - 48))
 width_of ds = None
 
--- The style of a conversion by its letter, which is one of `d i u x c` (C99 7.19.6.1).
-abbrev pub style_of : ℕ → Option Style
-style_of b = under b ((100, Signed) ∷ (105, Signed) ∷ (117, Unsigned) ∷ (120, Hexadecimal) ∷ (99, Byte) ∷ [])
-
--- The style of a conversion by its letter after an `l`, which is one of `d u x` (C99 7.19.6.1).
-abbrev pub long_style_of : ℕ → Option Style
-long_style_of b = under b ((100, Signed) ∷ (117, Unsigned) ∷ (120, Hexadecimal) ∷ [])
-
--- The style that the first byte gives, after an `l` or without one.
+-- The style of a conversion by its letter, the first byte: after an `l` one of `d u x`, and without one of `d i u x c`
+-- (C99 7.19.6.1).
 abbrev pub style_in : (long : Bool) → List ℕ → Option Style
 style_in long [] = None
-style_in long (b ∷ bs) = if long then long_style_of b else style_of b
+style_in true (b ∷ bs) = under b ((100, Signed) ∷ (117, Unsigned) ∷ (120, Hexadecimal) ∷ [])
+style_in false (b ∷ bs) =
+    under b ((100, Signed) ∷ (105, Signed) ∷ (117, Unsigned) ∷ (120, Hexadecimal) ∷ (99, Byte) ∷ [])
 
 -- A conversion with this width and style, of so many bytes; without a width or a style there is none.
 abbrev pub conversion : (zeros : Bool) → Option ℕ → (long : Bool) → Option Style → (bytes : ℕ) → Found
@@ -77,10 +72,6 @@ pieces_behind zero (b ∷ bs) =
     if b == 37
     then (found_in bs).piece ∷ pieces_behind (found_in bs).bytes bs
     else Plain b ∷ pieces_behind 0 bs
-
--- The pieces of a format (C99 7.19.6.1).
-abbrev pub pieces : List ℕ → List Piece
-pieces format = pieces_behind 0 format
 
 -- A text that is shorter than the width is filled on its left: with zeros after the sign, or with blanks before it.
 abbrev pub filled : Bool → ℕ → (sign digits : List ℕ) → List ℕ
@@ -124,4 +115,4 @@ text (Stray ∷ ps) vs = text ps vs
 
 -- What printf prints, by its format and the values after it (C99 7.19.6.1).
 abbrev pub printed : (format : List ℕ) → List ℤ → List ℕ
-printed format vs = text (pieces format) vs
+printed format vs = text (pieces_behind 0 format) vs

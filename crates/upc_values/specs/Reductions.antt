@@ -56,14 +56,10 @@ reduced Either k a b = Ok (truth (not (int_eq a (pos 0)) || not (int_eq b (pos 0
 reduced Least k a b = Ok (int_min a b)
 reduced Greatest k a b = Ok (int_max a b)
 
--- The result of an operator, converted back to the elements' kind (C99 6.3.1.3).
-abbrev pub back_to : Kind → Result ℤ ℕ → Result ℤ ℕ
-back_to k (Ok v) = Ok (converted k v)
-back_to k (Err c) = Err c
-
--- One step of a reduction: the operator after promotion, then the conversion to the elements' kind.
+-- One step of a reduction: the operator after promotion, then the conversion to the elements' kind
+-- (C99 6.3.1.3).
 abbrev pub step : Reduction → Kind → ℤ → ℤ → Result ℤ ℕ
-step op k a b = back_to k (reduced op (promoted k) a b)
+step op k a b = elim (reduced op (promoted k) a b) [ Ok v ↦ Ok (converted k v) | Err c ↦ Err c ]
 
 -- One step from the result so far, which stays where it is a run error.
 abbrev pub step_from : Reduction → Kind → Result ℤ ℕ → ℤ → Result ℤ ℕ

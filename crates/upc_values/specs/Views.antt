@@ -1,7 +1,7 @@
 -- Parts of shared objects that library calls see as arrays of their own (UPC 7.2.5, 7.3).
 use Rattle.std.specs.Prelude.{ℕ, zero, suc, ◌+◌, ◌-◌, ◌*◌, ◌%◌, nat_lt, ℤ, pos, ◌+ℤ◌, ◌-ℤ◌, int_le}
 use Rattle.std.specs.Prelude.{unsigned_abs, Bool, false, not, ◌&&◌, ◌||◌, List, Option, Some, None}
-use Rattle.std.specs.Prelude.{slice_get}
+use Rattle.std.specs.Prelude.{option_map, slice_get}
 use Rattle.std.specs.List.{list_any, filter_map, range_with_len}
 use Rattle.block_layout.specs.declared.place.SharedPtr.{SharedPtr}
 use Rattle.block_layout.specs.declared.place.Loc.{Loc}
@@ -61,19 +61,9 @@ cuts None x = false
 abbrev pub cuts_cell : Option Shape → ℕ → ℕ → Bool
 cuts_cell s x n = cuts s x || cuts s (x + n)
 
--- A cell, by how many bytes after the first it begins and by its kind.
-abbrev pub placed_kind : ℕ → Option Kind → Option (ℕ × Kind)
-placed_kind i (Some k) = Some (i, k)
-placed_kind i None = None
-
--- The cells in n bytes from this byte on.
+-- The cells in n bytes from this byte on: of each how many bytes after the first it begins, and its kind.
 abbrev pub cells_within : Option Shape → ℕ → ℕ → List (ℕ × Kind)
-cells_within s x n = filter_map (λ i. placed_kind i (kind_at s (x + i))) (range_with_len 0 n)
-
--- There is a cell, and it is of this kind.
-abbrev pub is_kind : Kind → Option Kind → Bool
-is_kind k (Some j) = same_kind k j
-is_kind k None = false
+cells_within s x n = filter_map (λ i. option_map (λ k. (i, k)) (kind_at s (x + i))) (range_with_len 0 n)
 
 -- The shape of the elements of a pointer's object, if the program has it.
 abbrev pub shape_at : List Shape → SharedPtr → Option Shape
@@ -81,7 +71,8 @@ shape_at shapes p = slice_get shapes p.object.shape
 
 -- A cell of this kind begins where the pointer leads.
 abbrev pub is_cell : List Shape → Kind → SharedPtr → Bool
-is_cell shapes k p = is_kind k (kind_at (shape_at shapes p) (unsigned_abs p.offset))
+is_cell shapes k p =
+    elim (kind_at (shape_at shapes p) (unsigned_abs p.offset)) [ Some j ↦ same_kind k j | None ↦ false ]
 
 -- An array of char as which a call sees an object: its block and its bytes (UPC 7.3).
 pub record View : Type 0 where

@@ -1,3 +1,4 @@
 pub mod Known
 pub mod Basic
 pub mod Chunks
+pub mod Parts

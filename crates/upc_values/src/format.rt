@@ -1,6 +1,6 @@
 //! The formats of printf (C99 7.19.6.1).
 
-ghost use Rattle.std.specs.Prelude.{◌≡◌, ◌<◌, ◌≤◌, [], ◌∷◌, drop, length, take_while, IfNone, IfSome};
+ghost use Rattle.std.specs.Prelude.{◌≡◌, ◌<◌, ◌≤◌, [], ◌∷◌, drop, length, take_while, true, false, IfNone, IfSome};
 ghost use Rattle.upc_values.specs.Printing as printing;
 
 /// How a conversion shows its value: as a signed or an unsigned number, in hexadecimal, or as one byte.
@@ -90,7 +90,7 @@ fn width_of(digits: &[u8]) -> Option<u32>
 }
 
 fn style_of(b: u8) -> Option<Style>
-    ensures { result ≡ printing.style_of b }
+    ensures { result ≡ printing.style_in false (b ∷ []) }
 {
     match b {
         b'd' | b'i' => Some(Style::Signed),
@@ -102,7 +102,7 @@ fn style_of(b: u8) -> Option<Style>
 }
 
 fn long_style_of(b: u8) -> Option<Style>
-    ensures { result ≡ printing.long_style_of b }
+    ensures { result ≡ printing.style_in true (b ∷ []) }
 {
     match b {
         b'd' => Some(Style::Signed),
@@ -186,7 +186,8 @@ fn found_in(bytes: &[u8]) -> Found
 pub fn first_piece(format: &[u8]) -> Option<Found>
     ensures none { IfNone result (format.now ≡ []) }
     ensures first { IfSome result (λ f.
-        printing.pieces format.now ≡ f.piece ∷ printing.pieces (drop f.bytes format.now)) }
+        printing.pieces_behind 0 format.now
+        ≡ f.piece ∷ printing.pieces_behind 0 (drop f.bytes format.now)) }
     ensures within { IfSome result (λ f. (0 < f.bytes) × (f.bytes ≤ length format.now)) }
 {
     if format.is_empty() {

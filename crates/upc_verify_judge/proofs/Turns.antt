@@ -18,7 +18,8 @@ use Rattle.upc_values.specs.Records.{actions_of}
 use Rattle.upc_values.proofs.Drained.{read-entries}
 use Rattle.upc_values.proofs.Membership.{each-append}
 use Rattle.upc_values.proofs.Walks.{entries_of-append, entries-own}
-use Rattle.thread_steps.specs.layer.Fronts.{turned, turned_by, IsInTurn}
+use Rattle.thread_steps.specs.layer.Fronts.{turned, IsInTurn}
+use Rattle.thread_steps.specs.layer.Parts.{turned_by}
 use Rattle.collective_laws_histories.proofs.Lists.{count-filter, count-cons}
 use Rattle.collective_laws_histories.proofs.Turning.{turned-append, none-turned_by, closed-before}
 use Rattle.memory_history.specs.layer.Turns.{takes_turn}

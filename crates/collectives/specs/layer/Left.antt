@@ -6,6 +6,7 @@ use Rattle.block_layout.specs.declared.kind.Kind.TheVariants as kind
 use Rattle.block_layout.specs.declared.kind.Shape.{Shape}
 use Rattle.block_layout.specs.declared.run_error.TheConstants.{LIBRARY_ARGS}
 use Rattle.upc_values.specs.declared.scalar.Scalar.{Scalar}
+use Rattle.upc_values.specs.layer.Parts as parts
 use Rattle.upc_values.specs.declared.action.Action.TheVariants as act
 use Rattle.upc_values.specs.History.{each_thread}
 use Rattle.upc_values.specs.Reductions.{Reduction, step}
@@ -59,7 +60,7 @@ pub record NumbersLeft : Type 0 where
 -- A permutation's numbers are tested, and the block that they choose is copied.
 abbrev pub permuted : ℕ → List Shape → ℕ → SharedPtr → SharedPtr → ℕ → List ℤ → Expansion (Unit {0})
 permuted threads shapes me dst src n vs =
-    refused_by ((not (each_thread threads (λ t. said.is_at threads shapes me t vs)), LIBRARY_ARGS) ∷ [])
+    refused_by ((not (each_thread threads (λ t. parts.is_at threads shapes me t vs)), LIBRARY_ARGS) ∷ [])
     (said.some_bytes threads shapes me n
     (said.move threads shapes me n (said.chosen threads shapes me dst src n vs ∷ [])))
 

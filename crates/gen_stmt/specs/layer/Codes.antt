@@ -18,8 +18,9 @@ use Rattle.typed_tree.specs.Tree as tree
 use Rattle.thread_steps.specs.declared.cast.CastTo.TheVariants as to
 use Rattle.thread_steps.specs.Values.{number}
 use Rattle.source_meaning.specs.Types.{integer_of, conversion}
+use Rattle.source_meaning.specs.layer.Parts.{with_strict}
 use Rattle.source_meaning.specs.Expressions.{no_value, type_of}
-use Rattle.source_meaning.specs.Statements.{Standing, with_strict, with_objects, objects_in, element_type, shapes_of}
+use Rattle.source_meaning.specs.Statements.{Standing, with_objects, objects_in, element_type, shapes_of}
 use Rattle.stack_code.specs.declared.instruction.StackWork.TheVariants as stack
 use Rattle.stack_code.specs.declared.instruction.ObjectWork.TheVariants as cell
 use Rattle.stack_code.specs.declared.instruction.Jump.TheVariants as jump

@@ -59,7 +59,7 @@ use Rattle.source_meaning.specs.Expressions.{Calls, type_of, types_of, step_oper
 use Rattle.source_meaning.specs.Expressions.{converted_to, arguments}
 use Rattle.source_meaning.specs.Statements.{Flow, Standing, run}
 use Rattle.source_meaning.specs.Laws.{Gives}
-use Rattle.thread_steps.specs.Blocks.{one_more}
+use Rattle.thread_steps.specs.layer.Parts.{one_more}
 use Rattle.meaning_laws.specs.layer.Values.{FitsCell, IsOf, IsPlaceOf, IsGiven, HasIntegerKind, IsFormedType}
 use Rattle.meaning_laws.specs.layer.Values.{IsFilled, Brings}
 use Rattle.source_meaning.specs.Threads.{called, main_of, main_called, initial_state}

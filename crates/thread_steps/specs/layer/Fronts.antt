@@ -1,5 +1,6 @@
 -- What comes first in a list of actions, and how notifies and waits follow one another.
 use Rattle.std.specs.Prelude.{◌≡◌, Bool, true, false, List, [], ◌∷◌, ◌++◌, Option, Some, None}
+use Rattle.std.specs.List.{fold}
 use Rattle.upc_values.specs.declared.action.Action.{Action}
 use Rattle.upc_values.specs.declared.action.Action.TheVariants.{Notify, Wait}
 
@@ -15,11 +16,6 @@ turned state (Notify mark) = None
 turned state (Wait mark) = None
 turned state a = state
 
--- Whether a notify is open after some actions; none where one of them stands out of turn (UPC 6.6.1).
-abbrev pub turned_by : Option Bool → List Action → Option Bool
-turned_by state [] = state
-turned_by state (a ∷ more) = turned_by (turned state a) more
-
--- Notifies and waits alternate, beginning with a notify (UPC 6.6.1).
+-- Notifies and waits alternate, beginning with a notify: none of the actions stands out of turn (UPC 6.6.1).
 abbrev pub IsInTurn : List Action → Type 0
-IsInTurn actions = (now : Bool) × (turned_by (Some false) actions ≡ Some now)
+IsInTurn actions = (now : Bool) × (fold turned (Some false) actions ≡ Some now)

@@ -1,10 +1,11 @@
 -- The targets to which a walk over structs has still to give numbers, and those that have numbers.
 use Rattle.std.specs.Prelude.{◌≡◌, ℕ, Bool, true, false, List, [], ◌∷◌, ◌++◌, drop, get_or}
 use Rattle.upc_values.specs.Lists.{Each}
-use Rattle.upc_types.specs.Cells.{is_noted}
 use Rattle.upc_types.specs.Types.{CType, Completed, Structs, members_in}
+use Rattle.upc_types.specs.layer.Parts.{is_noted}
 use Rattle.upc_types.specs.View.{view}
-use Rattle.typed_tree.specs.Targets.{members_targets, struct_targets, with_noted}
+use Rattle.typed_tree.specs.Targets.{struct_targets}
+use Rattle.typed_tree.specs.layer.Parts.{members_targets, with_noted}
 use Rattle.typed_tree_opening.specs.declared.targets.Leaf.{Leaf}
 use Rattle.typed_tree_opening.specs.declared.targets.Leaf.TheVariants.{Target, Inside, Plain}
 use Rattle.typed_tree_opening.specs.declared.targets.Pending.{Pending}

@@ -6,6 +6,7 @@ use Rattle.upc_text.specs.declared.faults.Stop.TheVariants as stop
 use Rattle.upc_types.specs.ViewStructs.{view_structs}
 use Rattle.typing_rules.specs.declared.setting.Home.{Home}
 use Rattle.typed_tree.specs.ViewStatements.{view_object, view_function}
+use Rattle.typed_tree.specs.Objects.{is_shared}
 use Rattle.upc_checker.specs.declared.limits.Sort.{Sort}
 use Rattle.upc_checker.specs.declared.limits.Sort.TheVariants as sort_variant
 use Rattle.upc_checker.specs.declared.limits.Passed as passed_type
@@ -13,7 +14,6 @@ use Rattle.upc_checker.specs.declared.whole.Checked as checked
 use Rattle.upc_checker.specs.Limits.{Passed, is_private}
 use Rattle.typed_tree.specs.Programs.{Checked}
 use Rattle.typed_tree.specs.Programs.{checked_of}
-use Rattle.typed_tree.specs.Objects.{is_shared}
 
 -- Whether an object of the file is of a sort: private, or shared.
 abbrev pub view_sort : Sort → Home → Bool

@@ -3,6 +3,7 @@ use Rattle.std.specs.Prelude.{ℕ, ◌≡◌, Bool, true, false, List, Option, S
 use Rattle.block_layout.specs.declared.kind.Kind.{Kind}
 use Rattle.block_layout.specs.declared.kind.Shape.{Shape}
 use Rattle.upc_values.specs.declared.action.Action.TheVariants as act
+use Rattle.upc_values.specs.layer.Parts as parts
 use Rattle.upc_values.specs.declared.action.Reply.{Reply}
 use Rattle.upc_values.specs.declared.action.Reply.TheVariants as reply
 use Rattle.upc_values.specs.declared.refused.Refused.{Refused}
@@ -46,8 +47,8 @@ kind_read x = None
 
 -- Where a side leads.
 abbrev pub area_of : Side → said.Area
-area_of (side.Shared p) = said.shared_area p
-area_of (side.Local p) = said.local_area p
+area_of (side.Shared p) = parts.shared_area p
+area_of (side.Local p) = parts.local_area p
 
 -- The expansion of a memory call, where the private object that it names has that shape.
 abbrev pub expansion : ℕ → List Shape → Option Shape → CopySpec → Expansion (Unit {0})

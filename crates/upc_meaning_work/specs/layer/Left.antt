@@ -18,6 +18,7 @@ use Rattle.thread_steps.specs.States.{Doing, ◌>>=◌, ◌>>◌, give, choose}
 use Rattle.thread_steps.specs.Values.{number, number_of, truth_value, is_zero}
 use Rattle.thread_steps.specs.Operators.{cast}
 use Rattle.source_meaning.specs.Running.{Running}
+use Rattle.source_meaning.specs.layer.Parts.{given_by}
 use Rattle.source_meaning.specs.Expressions.{Calls, no_value}
 use Rattle.source_meaning.specs.Expressions.{value_in, put}
 use Rattle.source_meaning.specs.Expressions.{converted_to, truth_after, value, address}
@@ -26,7 +27,7 @@ use Rattle.source_meaning.specs.Statements.{Flow, Next, Gave, Does, Standing, go
 use Rattle.source_meaning.specs.Statements.{around, controlling, synchronised, aside, tested, guarded}
 use Rattle.source_meaning.specs.Statements.{listed, declared, run, run_last, run_arms, run_items, run_switch}
 use Rattle.source_meaning.specs.Statements.{from_case, from_default}
-use Rattle.source_meaning.specs.Threads.{called, given_by}
+use Rattle.source_meaning.specs.Threads.{called}
 use Rattle.upc_meaning_state.specs.layer.Libraries.{library_called}
 use Rattle.upc_meaning_state.specs.layer.Operations.{operated}
 use Rattle.upc_meaning_work.specs.code.Stacks.{top, rest, second, below, youngest}

@@ -1,5 +1,5 @@
 use Rattle.std.proofs.Common.{ℕ, Bool, [], sym, ◌∙◌}
-use Rattle.upc_values.specs.Expansions.{is_at}
+use Rattle.upc_values.specs.layer.Parts.{is_at}
 use Rattle.collectives.proofs.Truths.{each-fails}
 use Rattle.collectives.proofs.permute.is_permutation.Goals as goal
 

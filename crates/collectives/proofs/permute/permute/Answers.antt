@@ -8,6 +8,7 @@ use Rattle.collectives.specs.code.Tests.{permute_tests}
 use Rattle.collectives.specs.layer.Left.{permuted}
 use Rattle.upc_library.specs.layer.Spots.{pointer_of}
 use Rattle.upc_values.specs.Expansion.{Expansion}
+use Rattle.upc_values.specs.layer.Parts as parts
 use Rattle.upc_values.specs.Expansion.{bind}
 use Rattle.upc_values.specs.Expansion.{gathered}
 use Rattle.upc_values.specs.Expansion.{refused_by}
@@ -19,7 +20,7 @@ returns-in-None-clause-made c =
     let t = c.args.thread.now in
     let ends = c.args.ends.now in
     let n = ends.bytes in
-    let ps = said.permutation t.threads t.shapes.now t.number c.args.perm.now in
+    let ps = parts.permutation t.threads t.shapes.now t.number c.args.perm.now in
     let go : List ℤ → Expansion (Unit {0}) = λ vs. permuted t.threads t.shapes.now t.number ends.dst.now ends.src.now n vs in
     let whole : List SharedPtr → SharedPtr → Expansion (Unit {0}) = λ q o. refused_by (permute_tests t.threads t.shapes.now n q o) (bind (gathered (said.number_at 0 [] 0 kind.Int) q) go) in
     let qs = map pointer_of c.in_ok-permutation.permutation.items in
@@ -34,7 +35,7 @@ returns-in-Some-clause-refused c =
     let t = c.args.thread.now in
     let ends = c.args.ends.now in
     let n = ends.bytes in
-    let ps = said.permutation t.threads t.shapes.now t.number c.args.perm.now in
+    let ps = parts.permutation t.threads t.shapes.now t.number c.args.perm.now in
     let go : List ℤ → Expansion (Unit {0}) = λ vs. permuted t.threads t.shapes.now t.number ends.dst.now ends.src.now n vs in
     let whole : List SharedPtr → SharedPtr → Expansion (Unit {0}) = λ q o. refused_by (permute_tests t.threads t.shapes.now n q o) (bind (gathered (said.number_at 0 [] 0 kind.Int) q) go) in
     let qs = map pointer_of c.in_ok-permutation.permutation.items in

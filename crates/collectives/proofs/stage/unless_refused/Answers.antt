@@ -1,7 +1,7 @@
 use Rattle.collectives.proofs.Following.{goes_on}
+use Rattle.upc_values.specs.layer.Parts.{unless_refused}
 use Rattle.collectives.proofs.Following.{refuses_both}
 use Rattle.collectives.specs.layer.Walks.{stage_rest}
-use Rattle.upc_values.specs.Expansion.{unless_refused}
 use Rattle.collectives.proofs.stage.unless_refused.Goals as goal
 
 pub returns-in-Ok-clause-rest : goal.returns-in-Ok-clause-rest

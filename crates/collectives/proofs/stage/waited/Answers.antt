@@ -1,11 +1,11 @@
 use Rattle.std.proofs.Common.{◌≡◌, subst}
+use Rattle.upc_values.specs.layer.Parts.{unless_refused}
 use Rattle.std.specs.Prelude.{IfOk, IfErr}
 use Rattle.collectives.proofs.Following.{goes_on}
 use Rattle.collectives.proofs.Following.{refuses_both}
 use Rattle.collectives.specs.layer.Walks.{from_work}
 use Rattle.collectives.specs.layer.Walks.{stage_rest}
 use Rattle.collectives.specs.layer.Wishes.{RefusesSo}
-use Rattle.upc_values.specs.Expansion.{unless_refused}
 use Rattle.collectives.proofs.stage.waited.Goals as goal
 
 pub returns-in-Ok-clause-rest : goal.returns-in-Ok-clause-rest

@@ -1,8 +1,8 @@
 use Rattle.std.proofs.Common.{[]}
 use Rattle.collectives.proofs.Following.{element_put}
 use Rattle.collectives.proofs.Following.{refuses_both}
-use Rattle.upc_values.specs.Expansion.{unless_refused}
 use Rattle.upc_values.specs.Expansions as said
+use Rattle.upc_values.specs.layer.Parts.{unless_refused}
 use Rattle.collectives.proofs.work.prefixed.Goals as goal
 
 pub returns-in-Ok-clause-rest : goal.returns-in-Ok-clause-rest

@@ -2,7 +2,8 @@ use Rattle.std.proofs.Common.{map, sym, ap, ◌∙◌}
 use Rattle.std.proofs.lemmas.List.{drop_all}
 use Rattle.upc_types.specs.View.{view}
 use Rattle.upc_types.specs.ViewStructs.{view_structs}
-use Rattle.typed_tree.specs.Elements.{element_shape, with_shapes}
+use Rattle.typed_tree.specs.Elements.{element_shape}
+use Rattle.typed_tree.specs.layer.Parts.{with_shapes}
 use Rattle.typed_tree_opening.proofs.elements.number_types.Goals as goal
 
 pub returns : goal.returns

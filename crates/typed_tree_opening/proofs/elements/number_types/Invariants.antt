@@ -2,7 +2,8 @@ use Rattle.std.proofs.Common.{◌≡◌, true, map, drop}
 use Rattle.upc_values.specs.Lists.{Each}
 use Rattle.upc_types.specs.View.{view}
 use Rattle.upc_types.specs.ViewStructs.{view_structs}
-use Rattle.typed_tree.specs.Elements.{element_shape, with_shapes}
+use Rattle.typed_tree.specs.Elements.{element_shape}
+use Rattle.typed_tree.specs.layer.Parts.{with_shapes}
 use Rattle.typing_rules.specs.Rules.{has_size}
 use Rattle.typed_tree_opening.proofs.elements.number_types.Given as goal
 

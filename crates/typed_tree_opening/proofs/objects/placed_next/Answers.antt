@@ -1,7 +1,8 @@
 use Rattle.std.proofs.Common.{◌≡◌, sym, ap, ◌∙◌}
 use Rattle.upc_types.specs.View.{view}
 use Rattle.upc_types.specs.ViewStructs.{view_structs}
-use Rattle.typed_tree.specs.Elements.{element_shape, number_among, with_shape, with_shapes}
+use Rattle.typed_tree.specs.Elements.{element_shape, number_among, with_shape}
+use Rattle.typed_tree.specs.layer.Parts.{with_shapes}
 use Rattle.typed_tree_opening.proofs.Numbering.{kept_number}
 use Rattle.typed_tree_opening.proofs.objects.placed_next.Goals as goal
 

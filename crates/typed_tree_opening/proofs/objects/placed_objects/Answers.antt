@@ -2,7 +2,8 @@ use Rattle.std.proofs.Common.{◌≡◌, ◌+◌, ◌≤◌, ◌++◌, ◌∷◌
 use Rattle.upc_types.specs.View.{view}
 use Rattle.upc_types.specs.Layout.{size}
 use Rattle.upc_types.specs.ViewStructs.{view_structs}
-use Rattle.typed_tree.specs.Elements.{element_shape, with_shape, with_shapes}
+use Rattle.typed_tree.specs.Elements.{element_shape, with_shape}
+use Rattle.typed_tree.specs.layer.Parts.{with_shapes}
 use Rattle.typed_tree.specs.Objects.{shared_in, type_of, placed, placed_from, bytes_in}
 use Rattle.typed_tree.specs.ViewStatements.{view_object}
 use Rattle.typed_tree.specs.declared.beginning.SharedDecl.{SharedDecl}

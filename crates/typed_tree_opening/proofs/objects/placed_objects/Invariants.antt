@@ -3,7 +3,8 @@ use Rattle.block_layout.specs.declared.kind.Shape.{Shape}
 use Rattle.upc_values.specs.Lists.{Each}
 use Rattle.upc_types.specs.ViewStructs.{view_structs}
 use Rattle.typing_rules.specs.Rules.{has_size}
-use Rattle.typed_tree.specs.Elements.{element_shape, with_shapes}
+use Rattle.typed_tree.specs.Elements.{element_shape}
+use Rattle.typed_tree.specs.layer.Parts.{with_shapes}
 use Rattle.typed_tree.specs.Objects.{shared_in, type_of, bytes_in, placed_from}
 use Rattle.typed_tree.specs.ViewStatements.{view_object}
 use Rattle.typed_tree_opening.proofs.objects.placed_objects.Given as goal

@@ -2,7 +2,8 @@ use Rattle.std.proofs.Common.{◌≡◌}
 use Rattle.upc_types.specs.Cells.{leaf_base}
 use Rattle.upc_types.specs.View.{view_base}
 use Rattle.upc_types.specs.ViewStructs.{view_structs}
-use Rattle.typed_tree.specs.Targets.{leaf_targets, struct_targets, with_noted}
+use Rattle.typed_tree.specs.Targets.{leaf_targets, struct_targets}
+use Rattle.typed_tree.specs.layer.Parts.{with_noted}
 use Rattle.typed_tree_opening.specs.code.Pending.{with_pending, AreEnded, IsDone}
 use Rattle.typed_tree_opening.proofs.targets.note_targets.Given as goal
 

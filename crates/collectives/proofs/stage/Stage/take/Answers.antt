@@ -7,10 +7,10 @@ use Rattle.collectives.specs.layer.Walks.{stage_rest}
 use Rattle.collectives.specs.layer.Wishes.{RefusesSo}
 use Rattle.std.proofs.lemmas.Result.{IfErr-weaker}
 use Rattle.upc_values.specs.Expansion.{Expansion}
+use Rattle.upc_values.specs.layer.Parts.{unless_refused}
 use Rattle.upc_values.specs.Expansion.{after_reply}
 use Rattle.upc_values.specs.Expansion.{bind}
 use Rattle.upc_values.specs.Expansion.{nothing}
-use Rattle.upc_values.specs.Expansion.{unless_refused}
 use Rattle.collectives.proofs.stage.Stage.take.Goals as goal
 
 pub returns-in-Left-clause-refused : goal.returns-in-Left-clause-refused

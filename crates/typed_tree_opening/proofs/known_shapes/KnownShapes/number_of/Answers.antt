@@ -1,10 +1,10 @@
 use Rattle.std.proofs.Common.{◌≡◌, ◌<◌, ◌≤◌, true, false, length, get_or, sym, ap, ◌∙◌, subst, arith}
+use Rattle.typed_tree.specs.layer.Parts.{same_shape}
 use Rattle.std.proofs.lemmas.Grind.{common_steps}
 use Rattle.std.proofs.lemmas.List.{get_or_default}
 use Rattle.block_layout.specs.declared.kind.Shape.{Shape}
 use Rattle.upc_types.specs.layer.Places.{place_below}
 use Rattle.upc_types.proofs.PlacesOfNumbers.{IsAt, is_at, up_to, falls}
-use Rattle.typed_tree.specs.Elements.{same_shape}
 use Rattle.typed_tree_opening.specs.code.Apart.{code_of, codes_of}
 use Rattle.typed_tree_opening.proofs.Coded.{coded, other_from, other_more, number_at, none_equal}
 use Rattle.typed_tree_opening.proofs.known_shapes.KnownShapes.number_of.Goals as goal

@@ -1,7 +1,7 @@
 use Rattle.std.proofs.Common.{◌≡◌, ℕ, ◌<◌, ◌≤◌, false, length, get_or}
+use Rattle.typed_tree.specs.layer.Parts.{same_shape}
 use Rattle.block_layout.specs.declared.kind.Shape.{Shape}
 use Rattle.upc_types.proofs.PlacesOfNumbers.{IsAt, up_to}
-use Rattle.typed_tree.specs.Elements.{same_shape}
 use Rattle.typed_tree_opening.specs.code.Apart.{code_of, codes_of}
 use Rattle.typed_tree_opening.proofs.known_shapes.KnownShapes.number_of.Given as goal
 

@@ -2,8 +2,9 @@ use Rattle.std.proofs.Common.{◌≡◌, ℕ, ◌<◌, [], ◌∷◌, ◌++◌, 
 use Rattle.std.proofs.lemmas.Grind.{common_steps}
 use Rattle.std.proofs.lemmas.List.{reverse-append, map-append, length-reverse, length-map}
 use Rattle.upc_types.specs.View.{view_completed, view_member}
+use Rattle.upc_types.specs.layer.Parts.{private_in}
 use Rattle.upc_types.specs.Types.{Member, Completed}
-use Rattle.upc_types.specs.Layout.{private_in, members_hold_private}
+use Rattle.upc_types.specs.Layout.{members_hold_private}
 use Rattle.upc_types.specs.code.Made.{IsMade, AreMade}
 use Rattle.upc_types.specs.declared.structs.Completed as d
 use Rattle.upc_types.proofs.Places.{kept_more, kept_room}
