@@ -190,19 +190,19 @@ module _ (threads : ℕ) (shapes : List Shape) (me : ℕ) where
   part_orderly : (n : ℕ) (part : Part) → Orderly false (Unit {0}) (x.copied threads shapes me n part)
   part_orderly n part = each_orderly _ (x.cells threads shapes me n part.into) (cell_orderly part)
 
-  move_orderly : (n : ℕ) (parts : List Part) → Orderly false (Unit {0}) (x.move threads shapes me n parts)
-  move_orderly n parts =
+  move_orderly : (n : ℕ) (moves : List Part) → Orderly false (Unit {0}) (x.move threads shapes me n moves)
+  move_orderly n moves =
       refused_by_orderly
-      ((list_any (λ part. leaves_range n part.into || leaves_range n part.from) parts, POINTER_RANGE)
+      ((list_any (λ part. leaves_range n part.into || leaves_range n part.from) moves, POINTER_RANGE)
       ∷ (
         list_any (λ part. parts.outside threads shapes me n part.into || parts.outside threads shapes me n part.from)
-            parts,
+            moves,
         OUT_OF_OBJECT,
       )
-      ∷ (list_any (x.differ threads shapes me n) parts, CELL_TYPE)
+      ∷ (list_any (x.differ threads shapes me n) moves, CELL_TYPE)
       ∷ [])
-      (each_in_turn (x.copied threads shapes me n) parts)
-      (each_orderly (x.copied threads shapes me n) parts (part_orderly n))
+      (each_in_turn (x.copied threads shapes me n) moves)
+      (each_orderly (x.copied threads shapes me n) moves (part_orderly n))
 
   some_orderly : (n : ℕ) (e : Expansion (Unit {0})) → Orderly false (Unit {0}) e
       → Orderly false (Unit {0}) (x.some_bytes threads shapes me n e)
