@@ -15,7 +15,7 @@ copied (Some d) (Some s) (Some n) (Some f) (Some w) = said.Copies w d s n f
 copied d s n f w = said.Other
 
 -- numbers out of their ranges make no call
-copied-numbers : (w : Option said.Way) (d s : SharedPtr) (n : ℕ) (f : ℤ) (p q : Bool) → kept (cond (p && q) (parts.copies w d s n f) said.Other) ≡ copied (Some d) (Some s) (cond p (Some n) None) (cond q (Some f) None) w
+copied-numbers : (w : Option said.Way) (d s : SharedPtr) (n : ℕ) (f : ℤ) (p q : Bool) → kept (cond (p && q) (parts.copies d s n f w) said.Other) ≡ copied (Some d) (Some s) (cond p (Some n) None) (cond q (Some f) None) w
 copied-numbers (Some w) d s n f true true = refl
 copied-numbers None d s n f true true = refl
 copied-numbers w d s n f true false = refl

@@ -1,8 +1,9 @@
 //! Elements of a view, each of which is to be a cell.
 
-ghost use Rattle.std.specs.Prelude.{◌≡◌, ◌<◌, false, not, map};
+ghost use Rattle.std.specs.Prelude.{◌≡◌, ◌<◌, false, not, map, unsigned_abs};
 ghost use Rattle.std.specs.List.{All, list_any};
 ghost use Rattle.block_layout.specs.Shapes.{kind_size};
+ghost use Rattle.upc_values.specs.Shapes as shapes;
 ghost use Rattle.upc_values.specs.Views as views;
 ghost use Rattle.upc_library.specs.layer.Spots.{pointer_of, IsRoomFor};
 
@@ -45,12 +46,20 @@ pub fn leave_pieces(thread: &Thread<'_>, kind: Kind, elements: &[Spot]) -> bool
     false
 }
 
+// The kind of the cell that begins at the element.
+fn kind_of(thread: &Thread<'_>, element: &Spot) -> Option<Kind>
+    ensures { result ≡ shapes.kind_at (views.shape_at thread.now.shapes.now (pointer_of element.now))
+        (unsigned_abs element.now.offset) }
+{
+    let shape = shape_of(thread.shapes, element.object.shape);
+    kind_at(shape, element.offset.unsigned_abs())
+}
+
 // Whether a cell of this kind begins at the element.
 fn is_cell(thread: &Thread<'_>, kind: Kind, element: &Spot) -> bool
     ensures { result ≡ views.is_cell thread.now.shapes.now kind (pointer_of element.now) }
 {
-    let shape = shape_of(thread.shapes, element.object.shape);
-    match kind_at(shape, element.offset.unsigned_abs()) {
+    match kind_of(thread, element) {
         Some(other) => kind.is(other),
         None => false,
     }
