@@ -59,7 +59,7 @@ pub fn known_or_zero(constant: Constant) -> i128
 
 /// Whether a call is a printf.
 pub fn is_printf(call: LibraryCall) -> bool
-    ensures { result ≡ mean.is_printf call }
+    ensures { result ≡ parts.is_printf call }
 {
     matches!(call, LibraryCall::Printf)
 }
