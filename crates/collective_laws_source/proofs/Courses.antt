@@ -70,7 +70,8 @@ module _ (ρ : Running) (P : Property) (K : IsKept ρ.thread P) where
 
     -- ---- steps that several constructs take
 
-    within_row_kept : (at : Place) (count : Option ℕ) (q : Value) (i : ℤ) → P n d (Unit {0}) (parts.within_row at q i count)
+    within_row_kept : (at : Place) (count : Option ℕ) (q : Value) (i : ℤ) → P n d (Unit {0})
+        (parts.within_row at q i count)
     within_row_kept at None q i = given tt
     within_row_kept at (Some count) q i = chosen _ skip (fault (own_parts.outside q) at) (given tt)
         (K.basic.of_over n d (Unit {0}) _ tt)
@@ -80,7 +81,8 @@ module _ (ρ : Running) (P : Property) (K : IsKept ρ.thread P) where
     unary_kept at op (Some kind) v = k.apply_kept ρ.thread P K n d op (promoted kind) at v
     unary_kept at op None v = given e.no_value
 
-    integers_kept : (at : Place) (op : BinOp) (i j : Option Kind) (q r : Value) → P n d Value (parts.integers at op i j q r)
+    integers_kept : (at : Place) (op : BinOp) (i j : Option Kind) (q r : Value) → P n d Value
+        (parts.integers at op i j q r)
     integers_kept at op (Some i) (Some j) q r = k.operate_kept ρ.thread P K n d op _ _ at q r
     integers_kept at op (Some i) None q r = given e.no_value
     integers_kept at op None j q r = given e.no_value
@@ -135,7 +137,8 @@ module _ (ρ : Running) (P : Property) (K : IsKept ρ.thread P) where
     put_kept : (strict : Bool) (at : Place) (type : CType) (q v : Value) → P n d (Unit {0}) (e.put ρ strict at type q v)
     put_kept strict at type q v = saved_kept strict at type (t.cell_kind ρ.structs type) q v
 
-    value_in_kept : (strict : Bool) (at : Place) (attr : Attr) (v : Value) → P n d Value (parts.value_in ρ strict at attr v)
+    value_in_kept : (strict : Bool) (at : Place) (attr : Attr) (v : Value) → P n d Value
+        (parts.value_in ρ strict at attr v)
     value_in_kept strict at attr v = chosen (parts.is_lvalue attr.form) (e.held ρ strict at attr.ctype v) (give v)
         (held_kept strict at attr.ctype v) (given v)
 
@@ -403,7 +406,8 @@ module _ (ρ : Running) (P : Property) (K : IsKept ρ.thread P) where
           then (parts.evaluated ρ call κ c) _ (evaluated_kept κ c) (λ v.
           let label = label_kind (t.integer_of (e.type_of c)) (number_of v) in
           then (s.from_case ρ call κ label items (s.from_default ρ call κ items)) _
-          (case_kept κ label items (s.from_default ρ call κ items) (default_kept κ items)) (λ f. gives (parts.caught f)))
+          (case_kept κ label items (s.from_default ρ call κ items) (default_kept κ items))
+          (λ f. gives (parts.caught f)))
       kind_kept κ at (While test body) = loop_kept d (parts.evaluated ρ call κ test) (s.run ρ call κ body) (give Next)
           (evaluated_kept κ test) (run_kept κ body) (gives Next)
       kind_kept κ at (DoWhile body test) =

@@ -488,7 +488,8 @@ module _ (ρ : Running) (functions : List (List Instr)) where
       value_runs (Is at attr kind) operands =
           part.then_runs ρ.thread functions Value Value (code.given_code (source_of ρ) strict at attr kind) _ operands
           (onto operands) (onto operands) (mean.given ρ call strict at attr kind) _ (given_runs at attr kind operands)
-          (λ v. value_in_runs strict (mean.inner_place (Is at attr kind)) attr.ctype (parts.is_lvalue attr.form) v operands)
+          (λ v. value_in_runs strict (mean.inner_place (Is at attr kind)) attr.ctype
+          (parts.is_lvalue attr.form) v operands)
 
       pub address_runs : (e : Expr) (operands : List Value)
           → Leaves (code.address_code (source_of ρ) strict e) operands (mean.address ρ call strict e)
@@ -520,7 +521,8 @@ module _ (ρ : Running) (functions : List (List Instr)) where
           (λ vs e. call_runs at f (arguments_count cs args) vs operands e)
       given_runs at attr (Call (target.Library c) args) operands =
           let cs = map type.parameter_conversion (call_parameters c) in
-          chosen_runs (parts.is_printf c) _ _ operands (mean.printed ρ call strict args) _ (printed_runs at args operands)
+          chosen_runs (parts.is_printf c) _ _ operands (mean.printed ρ call strict args) _
+          (printed_runs at args operands)
           (part.then_runs_with ρ.thread functions (List Value) Value (λ vs. length vs ≡ arguments_count cs args)
           (code.arguments_code (source_of ρ) strict cs args) _ operands (λ vs. piled vs operands) (onto operands)
           (mean.arguments ρ call strict cs args []) _ (all_counted cs args) (arguments_run cs args [] operands)
@@ -640,7 +642,8 @@ module _ (ρ : Running) (functions : List (List Instr)) where
           → Leaves given operands (mean.address ρ call strict e)
           → Drops (code.dropped_code (source_of ρ) strict e given) operands (mean.value ρ call strict e)
       dropped_runs (Is at attr kind) given operands x =
-          dropped_in_runs strict at (mean.inner_place (Is at attr kind)) attr.ctype (parts.is_lvalue attr.form) given _ operands
+          dropped_in_runs strict at (mean.inner_place (Is at attr kind)) attr.ctype
+          (parts.is_lvalue attr.form) given _ operands
           (mean.given ρ call strict at attr kind) x (dropped_kind_runs at attr kind given operands x)
 
       dropped_address_runs : (e : Expr) (given : List Instr) (operands : List Value)

@@ -148,7 +148,8 @@ module _ (structs : Structs) where
       subst (λ (x : Bool). IsGivenBy structs x a.ctype v) (sym ef)
       (subst (λ (w : CType). IsGivenBy structs lvalue w v) (sym et) h)
 
-  pub brings_as : (a : Attr) (lvalue : Bool) (u : CType) (m : Doing Value) → own_parts.is_lvalue a.form ≡ lvalue → a.ctype ≡ u
+  pub brings_as : (a : Attr) (lvalue : Bool) (u : CType) (m : Doing Value) → own_parts.is_lvalue a.form ≡ lvalue
+      → a.ctype ≡ u
       → Brings Value (IsGivenBy structs lvalue u) m → Brings Value (IsGiven structs a) m
   brings_as a lvalue u m ef et h =
       weaker_brings (IsGivenBy structs lvalue u) (IsGiven structs a) m h (λ v g. given_as a lvalue u v ef et g)
@@ -298,7 +299,8 @@ module _ (program : Checked) (thread budget : ℕ) where
         (first_brings (IsOf ρ.structs (type_of a)) (IsPlaceOf ρ.structs attr.ctype) (e.value ρ call strict a) _ h
         (λ v hv.
         member_brings ρ.thread ρ.structs u attr.ctype
-        (own_parts.target_offset ρ.structs index (target_of (type_of a))) at v (struct_formed structs u name named) f block
+        (own_parts.target_offset ρ.structs index (target_of (type_of a))) at v
+        (struct_formed structs u name named) f block
         (is_place ρ.structs (base_of (attr_of a).ctype) u v q hv)))
 
     -- ---- calls that allocate
@@ -412,7 +414,8 @@ module _ (program : Checked) (thread budget : ℕ) where
           (at_.element_address (facts_at program h.0.0) (attr_of a) (attr_of i) (base_target (base (attr_of a))))
           leads.1 in
           let same : attr.ctype ≡ leads.0 = ap (λ (y : Attr). y.ctype) h.0.1.is ∙ said.1 in
-          brings_as ρ.structs attr true attr.ctype _ (ap (λ (y : Attr). own_parts.is_lvalue y.form) h.0.1.is ∙ said.0) refl
+          brings_as ρ.structs attr true attr.ctype _
+          (ap (λ (y : Attr). own_parts.is_lvalue y.form) h.0.1.is ∙ said.0) refl
           (first_brings (IsOf ρ.structs (type_of a)) (IsPlaceOf ρ.structs attr.ctype) (e.value ρ call strict a) _
           (value_keeps n.Indexed a h.1 g.0) (λ q hq.
           first_brings (IsOf ρ.structs (type_of i)) (IsPlaceOf ρ.structs attr.ctype) (e.value ρ call strict i) _
@@ -543,7 +546,8 @@ module _ (program : Checked) (thread budget : ℕ) where
           let block : block_of attr.ctype ≡ at_.member_block (block_of (attr_of a).ctype) =
           ap (λ (y : Attr). block_of y.ctype) h.2.is ∙ ap block_of said.1
           ∙ member_type_block (attr_of a).ctype member.0.ctype in
-          brings_as ρ.structs attr true attr.ctype _ (ap (λ (y : Attr). own_parts.is_lvalue y.form) h.2.is ∙ said.0) refl
+          brings_as ρ.structs attr true attr.ctype _
+          (ap (λ (y : Attr). own_parts.is_lvalue y.form) h.2.is ∙ said.0) refl
           (first_brings (IsGiven ρ.structs (attr_of a)) (IsPlaceOf ρ.structs attr.ctype) (e.address ρ call strict a) _
           (address_keeps n.Plain a h.4 g.1) (λ q hq.
           member_brings ρ.thread ρ.structs (attr_of a).ctype attr.ctype

@@ -127,7 +127,8 @@ module _ (τ : Thread) where
   notify_brings at mark =
       first_brings Any Any (fault_if a.is_controlled BARRIER_IN_FORALL at) _
       (fault_if_brings a.is_controlled BARRIER_IN_FORALL at) (λ u v.
-      first_brings Any Any (fault_if parts.is_notified PHASE_ORDER at) _ (fault_if_brings parts.is_notified PHASE_ORDER at)
+      first_brings Any Any (fault_if parts.is_notified PHASE_ORDER at) _
+      (fault_if_brings parts.is_notified PHASE_ORDER at)
       (λ w x.
       first_brings Any Any (a.does τ at (act.Notify mark)) _ (does_brings at (act.Notify mark)) (λ y z.
       change_brings (parts.with_notified true) (λ σ i. i) (λ σ. refl))))

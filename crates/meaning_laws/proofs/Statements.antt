@@ -204,7 +204,8 @@ module _ (program : Checked) (thread budget : ℕ) where
         → MeetsValue program locals c → IsFormedValue Makes c → Brings Flow (LeavesBy kind) (s.aside ρ call κ c)
     aside_brings kind locals κ None m f = give_brings (LeavesBy kind) Next tt
     aside_brings kind locals κ (Some c) m f =
-        first_brings Any (LeavesBy kind) (parts.evaluated ρ call κ c) _ (evaluated_brings locals n.Plain κ c m f) (λ v g.
+        first_brings Any (LeavesBy kind) (parts.evaluated ρ call κ c) _ (evaluated_brings locals n.Plain κ c m f)
+        (λ v g.
         give_brings (LeavesBy kind) Next tt)
 
     tested_brings : (locals : List CType) (κ : Standing) (c : Option Expr) → MeetsValue program locals c
@@ -375,7 +376,8 @@ module _ (program : Checked) (thread budget : ℕ) where
             → Brings Flow Left (s.run_arms ρ call κ arms last)
         arms_bring c locals κ NoArms last q r m f pl = pl
         arms_bring c locals κ (AndArm test body more) last q r m f pl =
-            first_brings Any Left (parts.evaluated ρ call κ test) _ (evaluated_brings locals n.Plain κ test m.0 f.0) (λ v g.
+            first_brings Any Left (parts.evaluated ρ call κ test) _ (evaluated_brings locals n.Plain κ test m.0 f.0)
+            (λ v g.
             choose_brings Left (is_zero v) (s.run_arms ρ call κ more last) (s.run ρ call κ body)
             (arms_bring c locals κ more last q r m.2 f.2 pl) (run_brings c locals κ body q r m.1 f.1))
 

@@ -28,7 +28,7 @@ pub fn inner_place(e: &Expr) -> Place
 
 // How many elements an array has.
 fn count_in(base: &Base) -> Option<u32>
-    ensures { result ≡ mean.count_in (view_base base.now) }
+    ensures { result ≡ parts.count_in (view_base base.now) }
 {
     match base {
         Base::Array(_, count) => Some(*count),

@@ -103,8 +103,8 @@ module _ (ρ : Running) where
   on_pointers at o t x y = order ρ.thread o (elements_of ρ.structs t) at x y
 
   -- The value of a binary operator on two values, by the target of each that is a pointer and the kind of each that is
-  -- an integer: of a pointer and an integer the sum, the difference, or an equality with the constant 0; of two integers
-  -- after the usual arithmetic conversions (C99 6.3.1.8, 6.5.5 to 6.5.12).
+  -- an integer: of a pointer and an integer the sum, the difference, or an equality with the constant 0; of two
+  -- integers after the usual arithmetic conversions (C99 6.3.1.8, 6.5.5 to 6.5.12).
   abbrev pub operated : Place → BinOp → (left right : Option CType) → (j k : Option Kind) → Value → Value → Doing Value
   operated at o (Some t) (Some u) j k x y = on_pointers at o t x y
   operated at o (Some t) None j k x y =

@@ -110,8 +110,8 @@ module _ (ρ : Running) where
     wait ρ.thread (main_place main) Finish
     give (converted kind.Int (number_of v))
 
--- The outcome of a thread by the result of its course, with what it did and the ticks it counted: Ended with main's value, or the end that it has reached before
--- (C99 5.1.2.2.3).
+-- The outcome of a thread by the result of its course, with what it did and the ticks that it counted: Ended with
+-- main's value, or the end that it has reached before (C99 5.1.2.2.3).
 abbrev pub outcome_of : Res ℤ → Outcome
 outcome_of (Val v σ) = record { actions = σ.actions; ticks = σ.ticks; «end» = Ended v }
 outcome_of (Over e σ) = record { actions = σ.actions; ticks = σ.ticks; «end» = e }

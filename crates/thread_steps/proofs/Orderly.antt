@@ -237,7 +237,11 @@ module _ (threads : ℕ) (shapes : List Shape) (me : ℕ) where
       ((not (each_thread threads (λ t. named.is_at threads shapes me t vs)), LIBRARY_ARGS) ∷ []) (go vs) in
       refused_by_orderly
       ((list_any (leaves_range 4) ps || (some && leaves_range n own), POINTER_RANGE)
-      ∷ (list_any (named.outside threads shapes me 4) ps || (some && named.outside threads shapes me n own), OUT_OF_OBJECT)
+      ∷ (
+        list_any (named.outside threads shapes me 4) ps ||
+            (some && named.outside threads shapes me n own),
+        OUT_OF_OBJECT,
+      )
       ∷ (list_any (λ p. not (is_cell shapes kind.Int p)) ps || (some && x.cut threads shapes me n own), CELL_TYPE)
       ∷ [])
       (bind (gathered read ps) chosen)

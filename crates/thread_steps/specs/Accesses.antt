@@ -65,8 +65,8 @@ module _ (τ : Thread) where
     ask τ None (act.Write strict l (kept_scalar kind (scalar_of v)))
     skip
 
-  -- The value of the cell of a kind to which a value leads, by what the value is: through a pointer-to-local into shared
-  -- space it is read relaxed, and through null or what is no pointer it is run error 4 (C99 6.5.3.2, UPC 6.4.3,
+  -- The value of the cell of a kind to which a value leads, by what the value is: through a pointer-to-local into
+  -- shared space it is read relaxed, and through null or what is no pointer it is run error 4 (C99 6.5.3.2; UPC 6.4.3,
   -- 6.5.1.1).
   unfoldable pub load : Kind → Bool → Place → Value → Doing Value
   load kind strict at (value.Scalar (Shared p)) = load_shared kind strict at p

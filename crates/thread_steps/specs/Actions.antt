@@ -25,8 +25,8 @@ answered true a r rest = λ σ. Val r (record σ { actions = σ.actions ++ a ∷
 answered false a r rest = λ σ. Over (Misfit (length σ.actions)) σ
 
 module _ (τ : Thread) where
-  -- One action, answered by the next reply; where none is left, the thread wants the action. A read is of a cell of that
-  -- kind.
+  -- One action, answered by the next reply; where none is left, the thread wants the action. A read is of a cell of
+  -- that kind.
   unfoldable pub ask : Option Kind → Action → Doing Reply
   ask kind a = do
     replies ← know (λ σ. σ.replies)

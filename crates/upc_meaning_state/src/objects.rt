@@ -43,8 +43,8 @@ impl<'r> Progress<'r> {
         v: Value,
     ) -> Result<Step<Value>, OutOfMemory>
         requires { Fits setting.runner }
-        ensures { IfOk result (λ s. Came (parts.value_in (running_seen setting.entry) strict place (view_attr attr.now) v
-            (state_seen self.old)) s self.new) }
+        ensures { IfOk result (λ s. Came (parts.value_in (running_seen setting.entry) strict place (view_attr attr.now)
+            v (state_seen self.old)) s self.new) }
     {
         match attr.form {
             Form::Lvalue(_) => self.held(setting, strict, place, &attr.ctype, v),

@@ -206,8 +206,8 @@ impl<'r> Progress<'r> {
         y: &Value,
     ) -> Result<Step<Value>, OutOfMemory>
         requires { Fits setting.runner }
-        ensures { IfOk result (λ s. Came (parts.on_pointer (running_seen setting.entry) place (view t.now) x.now y.now op
-            (state_seen self.now)) s self.now) }
+        ensures { IfOk result (λ s. Came (parts.on_pointer (running_seen setting.entry) place (view t.now) x.now y.now
+            op (state_seen self.now)) s self.now) }
     {
         match op {
             BinOp::Add => self.behind(setting, place, t, *x, number_of(y)),

@@ -273,7 +273,8 @@ module _ (ς : Source) where
     abbrev mutual
       -- The code of the value of an expression (C99 6.5).
       pub value_code : Expr → List Instr
-      value_code (Is at attr kind) = given_code at attr kind ++ value_in_code strict (inner_place (Is at attr kind)) attr
+      value_code (Is at attr kind) = given_code at attr kind ++ value_in_code strict
+          (inner_place (Is at attr kind)) attr
 
       -- The code of the place of the object that an expression names (C99 6.3.2.1).
       pub address_code : Expr → List Instr

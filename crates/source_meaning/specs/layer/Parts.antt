@@ -16,7 +16,7 @@ use Rattle.upc_values.specs.declared.library.LibraryCall.{LibraryCall}
 use Rattle.upc_values.specs.declared.library.LibraryCall.TheVariants.{Printf}
 use Rattle.upc_values.specs.Outcomes.{Outcome}
 use Rattle.upc_types.specs.declared.layout.Layout.{Layout}
-use Rattle.upc_types.specs.Types.{CType, Base, Structs}
+use Rattle.upc_types.specs.Types.{CType, Base, Array, Structs}
 use Rattle.upc_types.specs.Layout.{base_within}
 use Rattle.upc_types.specs.Arithmetic.{promoted}
 use Rattle.typing_rules.specs.declared.attribute.Form.{Form}
@@ -72,6 +72,11 @@ abbrev pub is_main : Function → Bool
 is_main f = pointwise nat_eq f.name (codes "main")
 
 -- ---- expressions
+
+-- How many elements an array type has; no other type has elements (C99 6.2.5).
+abbrev pub count_in : Base → Option ℕ
+count_in (Array element count) = Some count
+count_in b = None
 
 -- The call is printf (C99 7.19.6.3).
 abbrev pub is_printf : LibraryCall → Bool
@@ -157,7 +162,8 @@ module _ (ρ : Running) where
   before_pointer at t x y op.Add = behind ρ at t y (number_of x)
   before_pointer at t x y o = on_pointers ρ at o t x y
 
-  -- The value of the cell of this kind at a place; what has no cell of its own has the place as its value (C99 6.3.2.1).
+  -- The value of the cell of this kind at a place; what has no cell of its own has the place as its value
+  -- (C99 6.3.2.1).
   abbrev pub loaded : Bool → Place → CType → Value → Option Kind → Doing Value
   loaded strict at t p (Some kind) = load ρ.thread kind (is_strict strict t) at p
   loaded strict at t p None = give p
