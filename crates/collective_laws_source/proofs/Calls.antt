@@ -146,7 +146,7 @@ module _ (τ : Thread) where
     read_reply (reply.Refused code) rest σ same e = stands σ (Reads k kind after)
 
     read_replies : (rs : List Reply) (σ : State) → depth σ.store ≡ d → σ.replies ≡ rs
-        → Follows d σ (Reads k kind after) (read_on (a.answered_from τ (Some kind) (act.Read k false) rs σ))
+        → Follows d σ (Reads k kind after) (read_on (parts.answered_from τ (Some kind) (act.Read k false) rs σ))
     read_replies [] σ same e = stands σ (Reads k kind after)
     read_replies (r ∷ rest) σ same e = read_reply r rest σ same e
 
@@ -187,7 +187,7 @@ module _ (τ : Thread) where
     ask_fit false r rest σ same e = stands σ (Asks y after)
 
     ask_replies : (rs : List Reply) (σ : State) → depth σ.store ≡ d → σ.replies ≡ rs
-        → Follows d σ (Asks y after) (bind (a.answered_from τ None y rs σ) (λ v. x.expanded τ at (after v)))
+        → Follows d σ (Asks y after) (bind (parts.answered_from τ None y rs σ) (λ v. x.expanded τ at (after v)))
     ask_replies [] σ same e = stands σ (Asks y after)
     ask_replies (r ∷ rest) σ same e = ask_fit (fits τ.threads τ.shapes None y r) r rest σ same e
 
@@ -359,7 +359,7 @@ module _ (τ : Thread) where
       meet_fit d at false r rest σ same e = meet_stops σ
 
       meet_replies : (d : ℕ) (at : Place) (rs : List Reply) (σ : State) → depth σ.store ≡ d → σ.replies ≡ rs
-          → Leads d σ (bind (a.answered_from τ None (act.Meet number args) rs σ) (λ v. x.expanded τ at (after v)))
+          → Leads d σ (bind (parts.answered_from τ None (act.Meet number args) rs σ) (λ v. x.expanded τ at (after v)))
       meet_replies d at [] σ same e = meet_stops σ
       meet_replies d at (r ∷ rest) σ same e =
           meet_fit d at (fits τ.threads τ.shapes None (act.Meet number args) r) r rest σ same e

@@ -38,6 +38,7 @@ use Rattle.thread_steps.specs.States.{Doing, ◌>>=◌, ◌>>◌, give, skip, kn
 use Rattle.thread_steps.specs.Values.{number, number_of, is_zero}
 use Rattle.thread_steps.specs.Actions as a
 use Rattle.thread_steps.specs.Pointers as p
+use Rattle.thread_steps.specs.layer.Parts as own_parts
 use Rattle.thread_steps.specs.Operators as o
 use Rattle.thread_steps.specs.Blocks as b
 use Rattle.source_meaning.specs.Types as t
@@ -46,7 +47,8 @@ use Rattle.source_meaning.specs.Running.{Running, parameters_of}
 use Rattle.source_meaning.specs.Expressions as e
 use Rattle.source_meaning.specs.Expressions.{Calls}
 use Rattle.source_meaning.specs.Statements as s
-use Rattle.source_meaning.specs.Statements.{Flow, Next, Broke, Again, Gave, Does, Standing}
+use Rattle.source_meaning.specs.layer.Parts.{Does}
+use Rattle.source_meaning.specs.Statements.{Flow, Next, Broke, Again, Gave, Standing}
 use Rattle.source_meaning.specs.Threads as h
 use Rattle.thread_steps.proofs.Kept.{Property}
 use Rattle.collective_laws_source.proofs.Operations as k
@@ -68,9 +70,10 @@ module _ (ρ : Running) (P : Property) (K : IsKept ρ.thread P) where
 
     -- ---- steps that several constructs take
 
-    within_row_kept : (at : Place) (count : Option ℕ) (q : Value) (i : ℤ) → P n d (Unit {0}) (e.within_row at count q i)
+    within_row_kept : (at : Place) (count : Option ℕ) (q : Value) (i : ℤ) → P n d (Unit {0})
+        (parts.within_row at q i count)
     within_row_kept at None q i = given tt
-    within_row_kept at (Some count) q i = chosen _ skip (fault (p.outside q) at) (given tt)
+    within_row_kept at (Some count) q i = chosen _ skip (fault (own_parts.outside q) at) (given tt)
         (K.basic.of_over n d (Unit {0}) _ tt)
 
     unary_kept : (at : Place) (op : UnOp) (kind : Option Kind) (v : Value) → P n d Value (e.unary at op kind v)
@@ -78,7 +81,8 @@ module _ (ρ : Running) (P : Property) (K : IsKept ρ.thread P) where
     unary_kept at op (Some kind) v = k.apply_kept ρ.thread P K n d op (promoted kind) at v
     unary_kept at op None v = given e.no_value
 
-    integers_kept : (at : Place) (op : BinOp) (i j : Option Kind) (q r : Value) → P n d Value (e.integers at op i j q r)
+    integers_kept : (at : Place) (op : BinOp) (i j : Option Kind) (q r : Value) → P n d Value
+        (parts.integers at op i j q r)
     integers_kept at op (Some i) (Some j) q r = k.operate_kept ρ.thread P K n d op _ _ at q r
     integers_kept at op (Some i) None q r = given e.no_value
     integers_kept at op None j q r = given e.no_value
@@ -95,13 +99,13 @@ module _ (ρ : Running) (P : Property) (K : IsKept ρ.thread P) where
     on_pointers_kept at o type q r = k.order_kept ρ.thread P K n d o (t.elements_of ρ.structs type) at q r
 
     on_pointer_kept : (at : Place) (op : BinOp) (type : CType) (q r : Value)
-        → P n d Value (e.on_pointer ρ at op type q r)
+        → P n d Value (parts.on_pointer ρ at type q r op)
     on_pointer_kept at op.Add type q r = behind_kept at type q (number_of r)
     on_pointer_kept at op.Subtract type q r = behind_kept at type q (neg_ℤ (number_of r))
     on_pointer_kept at o type q r = on_pointers_kept at o type q r
 
     before_pointer_kept : (at : Place) (op : BinOp) (type : CType) (q r : Value)
-        → P n d Value (e.before_pointer ρ at op type q r)
+        → P n d Value (parts.before_pointer ρ at type q r op)
     before_pointer_kept at op.Add type q r = behind_kept at type r (number_of q)
     before_pointer_kept at o type q r = on_pointers_kept at o type q r
 
@@ -118,7 +122,7 @@ module _ (ρ : Running) (P : Property) (K : IsKept ρ.thread P) where
         (t.integer_of left) (t.integer_of right) q r
 
     loaded_kept : (strict : Bool) (at : Place) (type : CType) (kind : Option Kind) (q : Value)
-        → P n d Value (e.loaded ρ strict at type kind q)
+        → P n d Value (parts.loaded ρ strict at type q kind)
     loaded_kept strict at type (Some kind) q = k.load_kept ρ.thread P K n d kind (t.is_strict strict type) at q
     loaded_kept strict at type None q = given q
 
@@ -126,15 +130,16 @@ module _ (ρ : Running) (P : Property) (K : IsKept ρ.thread P) where
     held_kept strict at type q = loaded_kept strict at type (t.cell_kind ρ.structs type) q
 
     saved_kept : (strict : Bool) (at : Place) (type : CType) (kind : Option Kind) (q v : Value)
-        → P n d (Unit {0}) (e.saved ρ strict at type kind q v)
+        → P n d (Unit {0}) (parts.saved ρ strict at type q v kind)
     saved_kept strict at type (Some kind) q v = k.save_kept ρ.thread P K n d kind (t.is_strict strict type) at q v
     saved_kept strict at type None q v = given tt
 
     put_kept : (strict : Bool) (at : Place) (type : CType) (q v : Value) → P n d (Unit {0}) (e.put ρ strict at type q v)
     put_kept strict at type q v = saved_kept strict at type (t.cell_kind ρ.structs type) q v
 
-    value_in_kept : (strict : Bool) (at : Place) (attr : Attr) (v : Value) → P n d Value (e.value_in ρ strict at attr v)
-    value_in_kept strict at attr v = chosen (e.is_lvalue attr.form) (e.held ρ strict at attr.ctype v) (give v)
+    value_in_kept : (strict : Bool) (at : Place) (attr : Attr) (v : Value) → P n d Value
+        (parts.value_in ρ strict at attr v)
+    value_in_kept strict at attr v = chosen (parts.is_lvalue attr.form) (e.held ρ strict at attr.ctype v) (give v)
         (held_kept strict at attr.ctype v) (given v)
 
     object_kept : (where_ : Home) → P n d Value (e.object ρ where_)
@@ -173,7 +178,7 @@ module _ (ρ : Running) (P : Property) (K : IsKept ρ.thread P) where
             first (e.value ρ call strict a) _ (value_kept a) (λ q.
             first (e.value ρ call strict i) _ (value_kept i) (λ j.
             first (e.behind ρ at attr.ctype q (number_of j)) _ (behind_kept at attr.ctype q (number_of j)) (λ r.
-            first (e.within_row at (e.dimension a) q (number_of j)) _
+            first (parts.within_row at q (number_of j) (e.dimension a)) _
             (within_row_kept at (e.dimension a) q (number_of j)) (λ u.
             given r))))
         given_kept at attr (Call (target.Function i) args) =
@@ -181,7 +186,7 @@ module _ (ρ : Running) (P : Property) (K : IsKept ρ.thread P) where
             first (e.arguments ρ call strict types args []) _ (arguments_kept types args []) (λ vs. calls i vs at)
         given_kept at attr (Call (target.Library c) args) =
             let types = map t.parameter_conversion (call_parameters c) in
-            chosen (e.is_printf c) (e.printed ρ call strict args) _ (printed_kept args)
+            chosen (parts.is_printf c) (e.printed ρ call strict args) _ (printed_kept args)
             (first (e.arguments ρ call strict types args []) _ (arguments_kept types args []) (λ vs.
             k.library_kept ρ.thread P K n d c (e.allocated_shape ρ c attr.ctype) at vs))
         given_kept at attr (Member a index) =
@@ -189,7 +194,7 @@ module _ (ρ : Running) (P : Property) (K : IsKept ρ.thread P) where
             k.member_kept ρ.thread P K n d (t.member_offset ρ.structs (e.type_of a) index) at q)
         given_kept at attr (MemberBehind a index) =
             first (e.value ρ call strict a) _ (value_kept a) (λ q.
-            k.member_kept ρ.thread P K n d (t.target_offset ρ.structs (t.target_of (e.type_of a)) index) at q)
+            k.member_kept ρ.thread P K n d (parts.target_offset ρ.structs index (t.target_of (e.type_of a))) at q)
         given_kept at attr (Step oper a) =
             let type = e.type_of a in
             first (e.address ρ call strict a) _ (address_kept a) (λ q.
@@ -198,7 +203,7 @@ module _ (ρ : Running) (P : Property) (K : IsKept ρ.thread P) where
             (binary_kept at (e.step_operator ρ oper) type int v (number (pos 1))) (λ w.
             first (o.cast ρ.thread (t.conversion type type) at w) _ (cast_kept (t.conversion type type) at w) (λ u.
             first (e.put ρ strict at type q u) _ (put_kept strict at type q u)
-            (λ r. given (e.step_value ρ oper v u))))))
+            (λ r. given (parts.step_value v u oper))))))
         given_kept at attr (Address a) = address_kept a
         given_kept at attr (Dereference a) = value_kept a
         given_kept at attr (Unary oper a) = first (e.value ρ call strict a) _ (value_kept a)
@@ -260,13 +265,13 @@ module _ (ρ : Running) (P : Property) (K : IsKept ρ.thread P) where
 
     -- ---- statements
 
-    go_on_kept : (f : Flow) (m : Does) → P n d Flow m → P n d Flow (s.go_on f m)
+    go_on_kept : (f : Flow) (m : Does) → P n d Flow m → P n d Flow (parts.go_on m f)
     go_on_kept Next m pm = pm
     go_on_kept Broke m pm = given Broke
     go_on_kept Again m pm = given Again
     go_on_kept (Gave v) m pm = given (Gave v)
 
-    turn_on_kept : (f : Flow) (m : Does) → P n d Flow m → P n d Flow (s.turn_on f m)
+    turn_on_kept : (f : Flow) (m : Does) → P n d Flow m → P n d Flow (parts.turn_on m f)
     turn_on_kept Next m pm = pm
     turn_on_kept Broke m pm = given Next
     turn_on_kept Again m pm = pm
@@ -320,7 +325,7 @@ module _ (ρ : Running) (P : Property) (K : IsKept ρ.thread P) where
 
   module _ (d : ℕ) (call : Calls) (calls : (i : ℕ) (args : List Value) (at : Place) → P ρ.thread.budget d Value
       (call i args at)) where
-    evaluated_kept : (κ : Standing) (c : Expr) → P ρ.thread.budget d Value (s.evaluated ρ call κ c)
+    evaluated_kept : (κ : Standing) (c : Expr) → P ρ.thread.budget d Value (parts.evaluated ρ call κ c)
     evaluated_kept κ c = value_kept ρ.thread.budget d call calls κ.strict c
 
     then : {A B : Type 0} (m : Doing A) (f : A → Doing B) → P ρ.thread.budget d A m
@@ -332,7 +337,7 @@ module _ (ρ : Running) (P : Property) (K : IsKept ρ.thread P) where
 
     aside_kept : (κ : Standing) (c : Option Expr) → P ρ.thread.budget d Flow (s.aside ρ call κ c)
     aside_kept κ None = gives Next
-    aside_kept κ (Some c) = then (s.evaluated ρ call κ c) _ (evaluated_kept κ c) (λ v. gives Next)
+    aside_kept κ (Some c) = then (parts.evaluated ρ call κ c) _ (evaluated_kept κ c) (λ v. gives Next)
 
     tested_kept : (κ : Standing) (c : Option Expr) → P ρ.thread.budget d Value (s.tested ρ call κ c)
     tested_kept κ None = gives _
@@ -340,7 +345,7 @@ module _ (ρ : Running) (P : Property) (K : IsKept ρ.thread P) where
 
     marked_kept : (κ : Standing) (c : Option Expr) → P ρ.thread.budget d Mark (s.marked ρ call κ c)
     marked_kept κ None = gives _
-    marked_kept κ (Some c) = then (s.evaluated ρ call κ c) _ (evaluated_kept κ c) (λ v. gives _)
+    marked_kept κ (Some c) = then (parts.evaluated ρ call κ c) _ (evaluated_kept κ c) (λ v. gives _)
 
     guarded_kept : (κ : Standing) (whose : Affinity) (at : Place) (m : Does) → P ρ.thread.budget d Flow m
         → P ρ.thread.budget d Flow (s.guarded ρ call κ whose m)
@@ -348,7 +353,7 @@ module _ (ρ : Running) (P : Property) (K : IsKept ρ.thread P) where
     guarded_kept κ (AtValue c) at m pm =
         then (know a.is_controlled) _ (K.basic.of_know ρ.thread.budget d Bool a.is_controlled (λ σ as_ rs. refl)) (λ v.
         chosen ρ.thread.budget d v (s.controlling ρ m) _ (controlling_kept ρ.thread.budget d at m pm)
-        (then (s.evaluated ρ call κ c) _ (evaluated_kept κ c) (λ w.
+        (then (parts.evaluated ρ call κ c) _ (evaluated_kept κ c) (λ w.
         then (b.mine ρ.thread (place_of c) w) _ (k.mine_kept ρ.thread P K ρ.thread.budget d (place_of c) w) (λ z.
         chosen ρ.thread.budget d (is_zero z) (give Next) (s.controlling ρ m) (gives Next)
         (controlling_kept ρ.thread.budget d at m pm)))))
@@ -360,8 +365,8 @@ module _ (ρ : Running) (P : Property) (K : IsKept ρ.thread P) where
         let type = s.element_type (base_of y.ctype) y.ctype in
         then (e.object ρ y.home) _ (object_kept ρ.thread.budget d y.home) (λ q.
         then (e.behind ρ y.at type q (pos i)) _ (behind_kept ρ.thread.budget d y.at type q (pos i)) (λ r.
-        then (e.converted_to ρ type c (s.evaluated ρ call κ c)) _
-        (converted_kept ρ.thread.budget d type c (s.evaluated ρ call κ c) (evaluated_kept κ c)) (λ v.
+        then (e.converted_to ρ type c (parts.evaluated ρ call κ c)) _
+        (converted_kept ρ.thread.budget d type c (parts.evaluated ρ call κ c) (evaluated_kept κ c)) (λ v.
         then (e.put ρ κ.strict y.at type r v) _ (put_kept ρ.thread.budget d κ.strict y.at type r v) (λ u.
         listed_kept κ y (i + 1) more))))
 
@@ -370,8 +375,8 @@ module _ (ρ : Running) (P : Property) (K : IsKept ρ.thread P) where
     initialised_kept κ y NoInitial = gives tt
     initialised_kept κ y (InitialValue c) =
         then (e.object ρ y.home) _ (object_kept ρ.thread.budget d y.home) (λ q.
-        then (e.converted_to ρ y.ctype c (s.evaluated ρ call κ c)) _
-        (converted_kept ρ.thread.budget d y.ctype c (s.evaluated ρ call κ c) (evaluated_kept κ c)) (λ v.
+        then (e.converted_to ρ y.ctype c (parts.evaluated ρ call κ c)) _
+        (converted_kept ρ.thread.budget d y.ctype c (parts.evaluated ρ call κ c) (evaluated_kept κ c)) (λ v.
         put_kept ρ.thread.budget d κ.strict y.at y.ctype q v))
     initialised_kept κ y (InitialList cs) = listed_kept κ y 0 cs
 
@@ -398,17 +403,18 @@ module _ (ρ : Running) (P : Property) (K : IsKept ρ.thread P) where
       kind_kept κ at (tree.Value c) = aside_kept κ c
       kind_kept κ at (If arms last) = arms_kept κ arms (s.run_last ρ call κ last) (otherwise_kept κ last)
       kind_kept κ at (Switch c items) =
-          then (s.evaluated ρ call κ c) _ (evaluated_kept κ c) (λ v.
+          then (parts.evaluated ρ call κ c) _ (evaluated_kept κ c) (λ v.
           let label = label_kind (t.integer_of (e.type_of c)) (number_of v) in
           then (s.from_case ρ call κ label items (s.from_default ρ call κ items)) _
-          (case_kept κ label items (s.from_default ρ call κ items) (default_kept κ items)) (λ f. gives (s.caught f)))
-      kind_kept κ at (While test body) = loop_kept d (s.evaluated ρ call κ test) (s.run ρ call κ body) (give Next)
+          (case_kept κ label items (s.from_default ρ call κ items) (default_kept κ items))
+          (λ f. gives (parts.caught f)))
+      kind_kept κ at (While test body) = loop_kept d (parts.evaluated ρ call κ test) (s.run ρ call κ body) (give Next)
           (evaluated_kept κ test) (run_kept κ body) (gives Next)
       kind_kept κ at (DoWhile body test) =
           around_kept ρ.thread.budget d (s.run ρ call κ body) (give Next)
-          (s.loop ρ (s.evaluated ρ call κ test) (s.run ρ call κ body) (give Next))
+          (s.loop ρ (parts.evaluated ρ call κ test) (s.run ρ call κ body) (give Next))
           (run_kept κ body) (gives Next)
-          (loop_kept d (s.evaluated ρ call κ test) (s.run ρ call κ body) (give Next) (evaluated_kept κ test)
+          (loop_kept d (parts.evaluated ρ call κ test) (s.run ρ call κ body) (give Next) (evaluated_kept κ test)
           (run_kept κ body) (gives Next))
       kind_kept κ at (For head body) =
           let η = s.with_objects head.objects κ in
@@ -426,8 +432,8 @@ module _ (ρ : Running) (P : Property) (K : IsKept ρ.thread P) where
       kind_kept κ at Continue = gives Again
       kind_kept κ at (Return None) = gives _
       kind_kept κ at (Return (Some c)) =
-          then (e.converted_to ρ κ.result c (s.evaluated ρ call κ c)) _
-          (converted_kept ρ.thread.budget d κ.result c (s.evaluated ρ call κ c) (evaluated_kept κ c))
+          then (e.converted_to ρ κ.result c (parts.evaluated ρ call κ c)) _
+          (converted_kept ρ.thread.budget d κ.result c (parts.evaluated ρ call κ c) (evaluated_kept κ c))
           (λ v. gives _)
       kind_kept κ at (Synchronise how c) =
           then (s.marked ρ call κ c) _ (marked_kept κ c) (λ mark.
@@ -442,7 +448,7 @@ module _ (ρ : Running) (P : Property) (K : IsKept ρ.thread P) where
           → P ρ.thread.budget d Flow (s.run_arms ρ call κ arms last)
       arms_kept κ NoArms last pl = pl
       arms_kept κ (AndArm test body more) last pl =
-          then (s.evaluated ρ call κ test) _ (evaluated_kept κ test) (λ v.
+          then (parts.evaluated ρ call κ test) _ (evaluated_kept κ test) (λ v.
           chosen ρ.thread.budget d (is_zero v) (s.run_arms ρ call κ more last) (s.run ρ call κ body)
           (arms_kept κ more last pl) (run_kept κ body))
 
@@ -492,10 +498,10 @@ module _ (ρ : Running) (P : Property) (K : IsKept ρ.thread P) where
   module _ (d : ℕ) (call : Calls) (calls : (i : ℕ) (args : List Value) (at : Place) → P ρ.thread.budget d Value
       (call i args at)) where
     opened_kept : (f : Function) (args : List Value) (at : Place) (strict : Bool) (items : Items)
-        → P ρ.thread.budget d Flow (h.opened ρ call f args at strict items)
+        → P ρ.thread.budget d Flow (parts.opened ρ call f args at strict items)
     opened_kept f args at strict items =
-        first ρ.thread.budget d (b.open_block 0 (h.shapes_in ρ f items) at) _
-        (k.open_kept ρ.thread P K ρ.thread.budget d 0 (h.shapes_in ρ f items) at) (λ u.
+        first ρ.thread.budget d (b.open_block 0 (parts.shapes_in ρ f items) at) _
+        (k.open_kept ρ.thread P K ρ.thread.budget d 0 (parts.shapes_in ρ f items) at) (λ u.
         first ρ.thread.budget d (h.received ρ at 0 f.parameters args) _ (received_kept d at 0 f.parameters args) (λ v.
         first ρ.thread.budget d (s.run_items ρ call (h.in_body ρ f strict) items) _
         (items_kept d call calls (h.in_body ρ f strict) items) (λ flow.
@@ -527,7 +533,7 @@ module _ (ρ : Running) (P : Property) (K : IsKept ρ.thread P) where
       K.of_call ρ.thread.budget 0 Value (h.main_place ρ f) (h.function ρ (h.called ρ 1000) f []) (λ lt.
       function_kept 1 (h.called ρ 1000) (called_kept 1000 1 (omega arith) (omega arith)) f [])
 
-  pub main_on_kept : (f : Option Function) → P ρ.thread.budget 0 ℤ (h.main_on ρ f)
+  pub main_on_kept : (f : Option Function) → P ρ.thread.budget 0 ℤ (parts.main_on ρ f)
   main_on_kept f =
       let at = h.main_place ρ f in
       let N = ρ.thread.budget in
@@ -539,7 +545,7 @@ module _ (ρ : Running) (P : Property) (K : IsKept ρ.thread P) where
   pub course_kept : P ρ.thread.budget 0 ℤ (h.course ρ)
   course_kept = from (h.main_of ρ.functions)
     where
-      from : (f : Option Function) → P ρ.thread.budget 0 ℤ (h.course_from ρ f)
+      from : (f : Option Function) → P ρ.thread.budget 0 ℤ (parts.course_from ρ f)
       from f =
           let at = h.main_place ρ f in
           let N = ρ.thread.budget in

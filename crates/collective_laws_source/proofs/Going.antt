@@ -136,7 +136,7 @@ module _ (τ : Thread) where
     ask_fit false r rest σ same e = stops σ
 
     ask_replies : (rs : List Reply) (σ : State) → depth σ.store ≡ d → σ.replies ≡ rs
-        → Leads τ d σ (a.answered_from τ kind y rs σ)
+        → Leads τ d σ (parts.answered_from τ kind y rs σ)
     ask_replies [] σ same e = stops σ
     ask_replies (r ∷ rest) σ same e = ask_fit (fits τ.threads τ.shapes kind y r) r rest σ same e
 
@@ -153,16 +153,16 @@ module _ (τ : Thread) where
       → Going n d (Unit {0}) (fault_if test code at)
   fault_if_going n d test code at ignores = basic_fault_if_kept Going basic_going n d test code at ignores
 
-  noted_going : (n d : ℕ) (v : Bool) → Going n d (Unit {0}) (change (a.with_notified v))
-  noted_going n d v = change_going n d (a.with_notified v) (λ σ. refl) (λ σ. none_did σ)
+  noted_going : (n d : ℕ) (v : Bool) → Going n d (Unit {0}) (change (parts.with_notified v))
+  noted_going n d v = change_going n d (parts.with_notified v) (λ σ. refl) (λ σ. none_did σ)
 
   notify_going : (n d : ℕ) (at : Place) (mark : Mark) → Going n d (Unit {0}) (a.notify τ at mark)
   unfolding a.notify
   notify_going n d at mark =
       then_going n d (Unit {0}) (Unit {0}) (fault_if a.is_controlled BARRIER_IN_FORALL at) _
       (fault_if_going n d a.is_controlled BARRIER_IN_FORALL at (λ σ as_ rs. refl)) (λ u.
-      then_going n d (Unit {0}) (Unit {0}) (fault_if a.is_notified PHASE_ORDER at) _
-      (fault_if_going n d a.is_notified PHASE_ORDER at (λ σ as_ rs. refl)) (λ v.
+      then_going n d (Unit {0}) (Unit {0}) (fault_if parts.is_notified PHASE_ORDER at) _
+      (fault_if_going n d parts.is_notified PHASE_ORDER at (λ σ as_ rs. refl)) (λ v.
       then_going n d (Unit {0}) (Unit {0}) (a.does τ at (act.Notify mark)) _
       (does_going n d at (act.Notify mark) tt) (λ w. noted_going n d true)))
 
@@ -203,7 +203,7 @@ module _ (τ : Thread) where
   meet_going n d at =
       then_going n d (Unit {0}) (Unit {0}) (fault_if a.is_controlled BARRIER_IN_FORALL at) _
       (fault_if_going n d a.is_controlled BARRIER_IN_FORALL at (λ σ as_ rs. refl)) (λ u.
-      fault_if_going n d a.is_notified PHASE_ORDER at (λ σ as_ rs. refl))
+      fault_if_going n d parts.is_notified PHASE_ORDER at (λ σ as_ rs. refl))
 
   run_going : (n d : ℕ) (at : Place) (e : Expansion Scalar) → Runs τ e → Going n d Scalar (x.run τ at e)
   unfolding x.run
@@ -215,7 +215,7 @@ module _ (τ : Thread) where
       then_going n d (Unit {0}) Value (choose (is_some (meet_number call)) (a.meet τ at) skip) _
       (basic_choose_kept Going basic_going n d (is_some (meet_number call)) (a.meet τ at) skip (meet_going n d at)
       (skip_going n d)) (λ u.
-      then_going n d (ℕ → Option Shape) Value (know l.private_shapes) _
+      then_going n d (ℕ → Option Shape) Value (know parts.private_shapes) _
       (record { by = λ σ same. here d σ same }) (λ private.
       then_going n d Scalar Value
       (x.run τ at (library_call τ.threads τ.shapes τ.number private call shape args)) _

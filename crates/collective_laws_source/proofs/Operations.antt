@@ -226,12 +226,12 @@ module _ (τ : Thread) (P : Property) (K : IsKept τ P) (n d : ℕ) where
       (K.of_called n d call shape at args) (K.basic.of_give n d Value (number (pos 0)))
 
   by_exit : (test : Bool) (call : LibraryCall) (shape : ℕ) (at : Place) (args : List Value)
-      → P n d Value (choose test (a.exit τ (l.first_number args)) (l.formed_call τ call shape at args))
+      → P n d Value (choose test (a.exit τ (parts.first_number args)) (l.formed_call τ call shape at args))
   by_exit test call shape at args =
-      choose_kept test (a.exit τ (l.first_number args)) (l.formed_call τ call shape at args)
-      (exit_kept (l.first_number args)) (formed_kept call shape at args)
+      choose_kept test (a.exit τ (parts.first_number args)) (l.formed_call τ call shape at args)
+      (exit_kept (parts.first_number args)) (formed_kept call shape at args)
 
   pub library_kept : (call : LibraryCall) (shape : ℕ) (at : Place) (args : List Value)
       → P n d Value (l.library τ call shape at args)
   unfolding l.library
-  library_kept call shape at args = by_exit (l.is_exit call) call shape at args
+  library_kept call shape at args = by_exit (parts.is_exit call) call shape at args

@@ -27,6 +27,7 @@ use Rattle.thread_steps.specs.Values.{number}
 use Rattle.source_meaning.specs.Types as type
 use Rattle.source_meaning.specs.Running.{parameters_of}
 use Rattle.source_meaning.specs.Expressions as mean
+use Rattle.source_meaning.specs.layer.Parts as parts
 use Rattle.source_meaning.specs.Expressions.{type_of, types_of}
 use Rattle.stack_code.specs.declared.instruction.StackWork.TheVariants as stack
 use Rattle.stack_code.specs.declared.instruction.ValueWork.TheVariants as make
@@ -243,8 +244,8 @@ module _ (ς : Source) where
       pub value_deepens : (e : Expr) (d : ℕ) → Deepens (code.value_code ς strict e) d (Then (suc d))
       value_deepens (Is at attr kind) d =
           follows (code.given_code ς strict at attr kind) _ d (suc d) _ (given_deepens at attr kind d)
-          (chosen_deepens (mean.is_lvalue attr.form) _ _ (suc d) (suc d)
-          (held_deepens strict (mean.inner_place_in at kind) attr.ctype d) (no_code (suc d)))
+          (chosen_deepens (parts.is_lvalue attr.form) _ _ (suc d) (suc d)
+          (held_deepens strict (mean.inner_place (Is at attr kind)) attr.ctype d) (no_code (suc d)))
 
       pub address_deepens : (e : Expr) (d : ℕ) → Deepens (code.address_code ς strict e) d (Then (suc d))
       address_deepens (Is at attr kind) d = given_deepens at attr kind d
@@ -269,7 +270,7 @@ module _ (ς : Source) where
           (arguments_deepen cs args d) refl (λ f more l. l)
       given_deepens at attr (Call (target.Library c) args) d =
           let cs = map type.parameter_conversion (call_parameters c) in
-          chosen_deepens (mean.is_printf c) _ _ d (suc d) (printed_deepens at args d)
+          chosen_deepens (parts.is_printf c) _ _ d (suc d) (printed_deepens at args d)
           (ends_with (code.arguments_code ς strict cs args) _ d d (raised (arguments_count cs args) d) _
           (arguments_deepen cs args d) refl (λ f more l. l))
       given_deepens at attr (Member a index) d =
@@ -347,9 +348,9 @@ module _ (ς : Source) where
       pub dropped_deepens : (e : Expr) (given : List Instr) (d : ℕ) → Deepens given d (Then (suc d))
           → Deepens (code.dropped_code ς strict e given) d (Then d)
       dropped_deepens (Is at attr kind) given d x =
-          chosen_deepens (mean.is_lvalue attr.form) _ _ d d
+          chosen_deepens (parts.is_lvalue attr.form) _ _ d d
           (follows given _ d (suc d) _ x
-          (popped_deepens at _ (suc d) d (held_deepens strict (mean.inner_place_in at kind) attr.ctype d)))
+          (popped_deepens at _ (suc d) d (held_deepens strict (mean.inner_place (Is at attr kind)) attr.ctype d)))
           (dropped_kind_deepens at attr kind given d x)
 
       dropped_address_deepens : (e : Expr) (given : List Instr) (d : ℕ) → Deepens given d (Then (suc d))

@@ -28,6 +28,7 @@ use Rattle.thread_steps.specs.Values.{number}
 use Rattle.source_meaning.specs.Types as type
 use Rattle.source_meaning.specs.Running.{parameters_of}
 use Rattle.source_meaning.specs.Expressions as mean
+use Rattle.source_meaning.specs.layer.Parts as parts
 use Rattle.source_meaning.specs.Expressions.{type_of, types_of}
 use Rattle.stack_code.specs.declared.instruction.StackWork.TheVariants as stack
 use Rattle.stack_code.specs.declared.instruction.ValueWork.TheVariants as make
@@ -206,7 +207,7 @@ module _ (ς : Source) (Q : Instr → Type 0) (h : HoldsOfForms ς Q) where
       pub value_gathers : (e : Expr) → Each Q (code.value_code ς strict e)
       value_gathers (Is at attr kind) =
           joined (code.given_code ς strict at attr kind) _ (given at attr kind)
-          (chosen (mean.is_lvalue attr.form) _ _ (held strict (mean.inner_place_in at kind) attr.ctype) tt)
+          (chosen (parts.is_lvalue attr.form) _ _ (held strict (mean.inner_place (Is at attr kind)) attr.ctype) tt)
 
       -- Each instruction of the code of its place.
       pub address_gathers : (e : Expr) → Each Q (code.address_code ς strict e)
@@ -230,7 +231,7 @@ module _ (ς : Source) (Q : Instr → Type 0) (h : HoldsOfForms ς Q) where
           (h.calls at (suc f) (arguments_count cs args), tt)
       given at attr (Call (target.Library c) args) =
           let cs = map type.parameter_conversion (call_parameters c) in
-          chosen (mean.is_printf c) _ _ (printed at args)
+          chosen (parts.is_printf c) _ _ (printed at args)
           (joined (code.arguments_code ς strict cs args) _ (arguments cs args)
           (h.library_calls at c (mean.allocated_shape (running_of ς) c attr.ctype) (arguments_count cs args), tt))
       given at attr (Member a index) =
@@ -293,8 +294,8 @@ module _ (ς : Source) (Q : Instr → Type 0) (h : HoldsOfForms ς Q) where
 
       dropped : (e : Expr) (front : List Instr) → Each Q front → Each Q (code.dropped_code ς strict e front)
       dropped (Is at attr kind) front p =
-          chosen (mean.is_lvalue attr.form) _ _
-          (joined front _ p (popped at _ (held strict (mean.inner_place_in at kind) attr.ctype)))
+          chosen (parts.is_lvalue attr.form) _ _
+          (joined front _ p (popped at _ (held strict (mean.inner_place (Is at attr kind)) attr.ctype)))
           (dropped_kind at attr kind front p)
 
       dropped_address : (e : Expr) (front : List Instr) → Each Q front

@@ -33,6 +33,7 @@ use Rattle.thread_steps.specs.Library.{library, print}
 use Rattle.source_meaning.specs.Types as type
 use Rattle.source_meaning.specs.Running.{Running, parameters_of}
 use Rattle.source_meaning.specs.Expressions as mean
+use Rattle.source_meaning.specs.layer.Parts as parts
 use Rattle.source_meaning.specs.Expressions.{Calls, type_of, types_of, no_value}
 use Rattle.stack_code.specs.declared.instruction.StackWork.TheVariants as stack
 use Rattle.stack_code.specs.declared.instruction.ValueWork.TheVariants as make
@@ -74,7 +75,7 @@ cast_nothing τ at Unfinished = refl
 
 -- The test of a row, as the instruction has it.
 row_same : (at : Place) (count : ℕ) (p : Value) (i : ℤ) (σ : State)
-    → in_row count at p i σ ≡ mean.within_row at (Some count) p i σ
+    → in_row count at p i σ ≡ parts.within_row at p i (Some count) σ
 row_same at count (value.Scalar v) i σ = refl
 row_same at count (value.Local p) i σ = refl
 
@@ -147,7 +148,7 @@ module _ (ρ : Running) (functions : List (List Instr)) where
 
   integers_run : (at : Place) (o : BinOp) (j k : Option Kind) (x y : Value) (operands : List Value)
       → Runs ρ.thread functions Value (code.integers_code at o j k) (y ∷ (x ∷ operands)) (onto operands)
-      (mean.integers at o j k x y)
+      (parts.integers at o j k x y)
   integers_run at o (Some j) (Some k) x y operands =
       makes_one _ (y ∷ (x ∷ operands)) operands _ (λ here calls σ. refl)
   integers_run at o (Some j) None x y operands = no_value_runs at x y operands
@@ -174,7 +175,7 @@ module _ (ρ : Running) (functions : List (List Instr)) where
 
   on_pointer_runs : (at : Place) (o : BinOp) (t : CType) (x y : Value) (operands : List Value)
       → Runs ρ.thread functions Value (code.on_pointer_code (source_of ρ) at o t) (y ∷ (x ∷ operands)) (onto operands)
-      (mean.on_pointer ρ at o t x y)
+      (parts.on_pointer ρ at t x y o)
   on_pointer_runs at op.Add t x y operands = advance_runs at t x y operands
   on_pointer_runs at op.Subtract t x y operands =
       makes_one _ (y ∷ (x ∷ operands)) operands _ (λ here calls σ. refl)
@@ -182,7 +183,7 @@ module _ (ρ : Running) (functions : List (List Instr)) where
 
   before_pointer_runs : (at : Place) (o : BinOp) (t : CType) (x y : Value) (operands : List Value)
       → Runs ρ.thread functions Value (code.before_pointer_code (source_of ρ) at o t) (y ∷ (x ∷ operands))
-      (onto operands) (mean.before_pointer ρ at o t x y)
+      (onto operands) (parts.before_pointer ρ at t x y o)
   before_pointer_runs at op.Add t x y operands =
       part.stack_runs ρ.thread functions Value at stack.Swap _ (y ∷ (x ∷ operands)) (onto operands) _
       (advance_runs at t y x operands)
@@ -206,7 +207,7 @@ module _ (ρ : Running) (functions : List (List Instr)) where
 
   loaded_runs : (strict : Bool) (at : Place) (t : CType) (kind : Option Kind) (p : Value) (operands : List Value)
       → Runs ρ.thread functions Value (code.loaded_code (source_of ρ) strict at t kind) (p ∷ operands) (onto operands)
-      (mean.loaded ρ strict at t kind p)
+      (parts.loaded ρ strict at t p kind)
   loaded_runs strict at t (Some kind) p operands = makes_one _ (p ∷ operands) operands _ (λ here calls σ. refl)
   loaded_runs strict at t None p operands = part.none_runs ρ.thread functions Value p (onto operands)
 
@@ -218,7 +219,7 @@ module _ (ρ : Running) (functions : List (List Instr)) where
 
   saved_runs : (strict : Bool) (at : Place) (t : CType) (kind : Option Kind) (p v : Value) (operands : List Value)
       → Runs ρ.thread functions (Unit {0}) (code.saved_code (source_of ρ) strict at t kind) (v ∷ (p ∷ operands))
-      (λ _. v ∷ operands) (mean.saved ρ strict at t kind p v)
+      (λ _. v ∷ operands) (parts.saved ρ strict at t p v kind)
   saved_runs strict at t (Some kind) p v operands =
       part.one_runs ρ.thread functions (Unit {0}) _ (v ∷ (p ∷ operands)) (λ _. v ∷ operands) _ (λ here calls σ. refl)
   saved_runs strict at t None p v operands =
@@ -264,7 +265,7 @@ module _ (ρ : Running) (functions : List (List Instr)) where
   -- The place that a subscript names.
   subscript_runs : (at : Place) (t : CType) (d : Option ℕ) (p i : Value) (operands : List Value)
       → Runs ρ.thread functions Value (code.subscript_code (source_of ρ) at t d) (i ∷ (p ∷ operands)) (onto operands)
-      (mean.behind ρ at t p (number_of i) >>= (λ q. mean.within_row at d p (number_of i) >> give q))
+      (mean.behind ρ at t p (number_of i) >>= (λ q. parts.within_row at p (number_of i) d >> give q))
   subscript_runs at t None p i operands =
       part.ends_runs ρ.thread functions Value Value _ (i ∷ (p ∷ operands)) (onto operands) (onto operands)
       (mean.behind ρ at t p (number_of i)) (λ q. q) (λ q. refl) (advance_runs at t p i operands)
@@ -275,7 +276,7 @@ module _ (ρ : Running) (functions : List (List Instr)) where
       (i ∷ (p ∷ (i ∷ (p ∷ operands)))) (onto (i ∷ (p ∷ operands))) (onto operands)
       (mean.behind ρ at t p (number_of i)) _ (advance_runs at t p i (i ∷ (p ∷ operands)))
       (λ q. part.ends_runs ρ.thread functions (Unit {0}) Value _ (q ∷ (i ∷ (p ∷ operands))) (λ _. q ∷ operands)
-      (onto operands) (mean.within_row at (Some count) p (number_of i)) (λ _. q) (λ _. refl)
+      (onto operands) (parts.within_row at p (number_of i) (Some count)) (λ _. q) (λ _. refl)
       (part.told_runs ρ.thread functions (Unit {0}) _ (q ∷ (i ∷ (p ∷ operands))) (λ _. q ∷ operands)
       (in_row count at p (number_of i)) _ (λ σ. row_same at count p (number_of i) σ)
       (part.one_runs ρ.thread functions (Unit {0}) _ (q ∷ (i ∷ (p ∷ operands))) (λ _. q ∷ operands)
@@ -331,7 +332,7 @@ module _ (ρ : Running) (functions : List (List Instr)) where
 
   step_runs : (strict : Bool) (at : Place) (o : StepOperator) (t : CType) (p : Value) (operands : List Value)
       → Runs ρ.thread functions Value (code.step_code (source_of ρ) strict at o t) (p ∷ operands) (onto operands)
-      (Stepped strict at (mean.step_operator ρ o) t p (mean.step_value ρ o))
+      (Stepped strict at (mean.step_operator ρ o) t p (λ old new. parts.step_value old new o))
   step_runs strict at step.IncrementFirst t p operands = first_step_runs strict at op.Add t p operands
   step_runs strict at step.DecrementFirst t p operands = first_step_runs strict at op.Subtract t p operands
   step_runs strict at step.IncrementAfter t p operands = after_step_runs strict at op.Add t p operands
@@ -361,7 +362,7 @@ module _ (ρ : Running) (functions : List (List Instr)) where
 
   step_effect_runs : (strict : Bool) (at : Place) (o : StepOperator) (t : CType) (p : Value) (operands : List Value)
       → Runs ρ.thread functions Value (code.step_effect_code (source_of ρ) strict at o t) (p ∷ operands)
-      (none_onto operands) (Stepped strict at (mean.step_operator ρ o) t p (mean.step_value ρ o))
+      (none_onto operands) (Stepped strict at (mean.step_operator ρ o) t p (λ old new. parts.step_value old new o))
   step_effect_runs strict at step.IncrementFirst t p operands =
       plain_step_runs strict at op.Add t p (λ v u. u) operands
   step_effect_runs strict at step.DecrementFirst t p operands =
@@ -487,7 +488,8 @@ module _ (ρ : Running) (functions : List (List Instr)) where
       value_runs (Is at attr kind) operands =
           part.then_runs ρ.thread functions Value Value (code.given_code (source_of ρ) strict at attr kind) _ operands
           (onto operands) (onto operands) (mean.given ρ call strict at attr kind) _ (given_runs at attr kind operands)
-          (λ v. value_in_runs strict (mean.inner_place_in at kind) attr.ctype (mean.is_lvalue attr.form) v operands)
+          (λ v. value_in_runs strict (mean.inner_place (Is at attr kind)) attr.ctype
+          (parts.is_lvalue attr.form) v operands)
 
       pub address_runs : (e : Expr) (operands : List Value)
           → Leaves (code.address_code (source_of ρ) strict e) operands (mean.address ρ call strict e)
@@ -519,7 +521,8 @@ module _ (ρ : Running) (functions : List (List Instr)) where
           (λ vs e. call_runs at f (arguments_count cs args) vs operands e)
       given_runs at attr (Call (target.Library c) args) operands =
           let cs = map type.parameter_conversion (call_parameters c) in
-          chosen_runs (mean.is_printf c) _ _ operands (mean.printed ρ call strict args) _ (printed_runs at args operands)
+          chosen_runs (parts.is_printf c) _ _ operands (mean.printed ρ call strict args) _
+          (printed_runs at args operands)
           (part.then_runs_with ρ.thread functions (List Value) Value (λ vs. length vs ≡ arguments_count cs args)
           (code.arguments_code (source_of ρ) strict cs args) _ operands (λ vs. piled vs operands) (onto operands)
           (mean.arguments ρ call strict cs args []) _ (all_counted cs args) (arguments_run cs args [] operands)
@@ -639,7 +642,8 @@ module _ (ρ : Running) (functions : List (List Instr)) where
           → Leaves given operands (mean.address ρ call strict e)
           → Drops (code.dropped_code (source_of ρ) strict e given) operands (mean.value ρ call strict e)
       dropped_runs (Is at attr kind) given operands x =
-          dropped_in_runs strict at (mean.inner_place_in at kind) attr.ctype (mean.is_lvalue attr.form) given _ operands
+          dropped_in_runs strict at (mean.inner_place (Is at attr kind)) attr.ctype
+          (parts.is_lvalue attr.form) given _ operands
           (mean.given ρ call strict at attr kind) x (dropped_kind_runs at attr kind given operands x)
 
       dropped_address_runs : (e : Expr) (given : List Instr) (operands : List Value)

@@ -25,13 +25,12 @@ use Rattle.thread_steps.specs.Values.{number_of}
 use Rattle.thread_steps.specs.Actions.{tick, notify, wait}
 use Rattle.thread_steps.specs.Blocks.{open_block, close_block, local_object, begin_call, end_call}
 use Rattle.source_meaning.specs.Types.{cell_kind}
-use Rattle.source_meaning.specs.layer.Parts.{given_by, is_main}
+use Rattle.source_meaning.specs.layer.Parts.{given_by, is_main, saved, opened, shapes_in}
 use Rattle.source_meaning.specs.Running.{Running, running}
-use Rattle.source_meaning.specs.Expressions.{Calls, no_value, put, saved}
+use Rattle.source_meaning.specs.Expressions.{Calls, no_value, put}
 use Rattle.source_meaning.specs.Statements.{Flow, Next, Broke, Again, Gave, run, run_items}
-use Rattle.source_meaning.specs.Threads.{blank_of, main_of, in_body, shapes_in, opened, body}
-use Rattle.source_meaning.specs.Threads.{function, called, most_calls, main_place, main_called, course}
-use Rattle.source_meaning.specs.Threads.{initial_state, outcome_of, thread_outcome}
+use Rattle.source_meaning.specs.Threads.{main_of, in_body, body, function, called, most_calls, main_place}
+use Rattle.source_meaning.specs.Threads.{main_called, course, initial_state, outcome_of, thread_outcome, blank_of}
 use Rattle.source_meaning.specs.Threads as source
 use Rattle.source_meaning.specs.Laws.{IsFinished}
 use Rattle.source_meaning.proofs.Finished.{is_total}
@@ -89,7 +88,7 @@ dropped vs ops =
 -- The parameters get the same values.
 module _ (ρ : Running) where
   kept_same : (t : CType) (k : Option Kind) (at : Place) (p v : Value) (σ : State)
-      → kept_in ρ.thread (access_of t k) at p v σ ≡ saved ρ false at t k p v σ
+      → kept_in ρ.thread (access_of t k) at p v σ ≡ saved ρ false at t p v k σ
   kept_same t (Some k) at p v σ = refl
   kept_same t None at p v σ = refl
 

@@ -20,10 +20,10 @@ use Rattle.typed_tree.specs.Tree.{NoSwitchItems, AndCase, AndDefault, AndSwitchS
 use Rattle.typed_tree.specs.Tree as tree
 use Rattle.typed_tree.specs.Programs.{Checked}
 use Rattle.source_meaning.specs.Types.{integer_of, conversion, cell_kind}
-use Rattle.source_meaning.specs.layer.Parts.{with_strict}
+use Rattle.source_meaning.specs.layer.Parts.{with_strict, shapes_in}
 use Rattle.source_meaning.specs.Expressions.{type_of}
 use Rattle.source_meaning.specs.Statements.{Standing, with_objects, element_type, shapes_of, objects_in}
-use Rattle.source_meaning.specs.Threads.{blank_of, in_body, shapes_in}
+use Rattle.source_meaning.specs.Threads.{in_body, blank_of}
 use Rattle.stack_code.specs.declared.instruction.StackWork.TheVariants as stack
 use Rattle.stack_code.specs.declared.instruction.Jump.TheVariants as jump
 use Rattle.stack_code.specs.declared.instruction.ThreadWork.TheVariants as thread

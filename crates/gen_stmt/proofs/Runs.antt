@@ -37,11 +37,11 @@ use Rattle.thread_steps.specs.Accesses.{save}
 use Rattle.thread_steps.specs.Operators.{cast}
 use Rattle.thread_steps.specs.Blocks.{open_block, close_block, local_object, control, release, mine, with_live}
 use Rattle.source_meaning.specs.Types.{integer_of, conversion, is_strict, cell_kind}
-use Rattle.source_meaning.specs.layer.Parts.{with_strict}
+use Rattle.source_meaning.specs.layer.Parts.{with_strict, saved, Does, caught, turn_on, go_on}
 use Rattle.source_meaning.specs.Running.{Running, shared_object}
-use Rattle.source_meaning.specs.Expressions.{Calls, no_value, type_of, value, object, behind, converted_to, put, saved}
-use Rattle.source_meaning.specs.Statements.{Flow, Next, Broke, Again, Gave, Does, Standing, with_objects}
-use Rattle.source_meaning.specs.Statements.{go_on, turn_on, caught, finished, objects_in, element_type, shapes_of}
+use Rattle.source_meaning.specs.Expressions.{Calls, no_value, type_of, value, object, behind, converted_to, put}
+use Rattle.source_meaning.specs.Statements.{Flow, Next, Broke, Again, Gave, Standing, with_objects}
+use Rattle.source_meaning.specs.Statements.{finished, objects_in, element_type, shapes_of}
 use Rattle.source_meaning.specs.Statements.{blocked, around, turns, controlling, synchronised, aside, tested}
 use Rattle.source_meaning.specs.Statements.{guarded, listed, initialised, declared, run, run_kind, run_last, run_arms}
 use Rattle.source_meaning.specs.Statements.{run_items, run_switch, from_case, from_default}
@@ -228,7 +228,7 @@ module _ (ρ : Running) (fs : List (List Instr)) (call : Calls) (values : AllMea
       by_kind : (k : Option Kind) → HasAt code pc (saved_code ς strict at t k)
           → slice_get code (pc + length (saved_code ς strict at t k)) ≡ Some (stacks at stack.Pop)
           → pc + length (saved_code ς strict at t k) + 1 ≡ out
-          → Meet (Unit {0}) (on pc (v ∷ (p ∷ ops)) σ) (any_on out ops) (saved ρ strict at t k p v σ)
+          → Meet (Unit {0}) (on pc (v ∷ (p ∷ ops)) σ) (any_on out ops) (saved ρ strict at t p v k σ)
       by_kind (Some k) has pop eo =
           lands θ fs (Unit {0}) _ (any_on (pc + 1) (v ∷ ops)) (any_on out ops)
           (save θ k (is_strict strict t) at p v σ) (λ _ τ. pops (pc + 1) out ops v at τ pop eo)
@@ -360,7 +360,7 @@ module _ (ρ : Running) (fs : List (List Instr)) (call : Calls) (values : AllMea
   -- The rest of a list.
   goes_on : (ops : List Value) (mid out : ℕ) (ω : Ways) (f : Flow) (k : Does) (σ : State)
       → Meet Flow (on mid ops σ) (flow_at ops out ω) (k σ)
-      → Meet Flow (flow_at ops mid ω f σ) (flow_at ops out ω) (go_on f k σ)
+      → Meet Flow (flow_at ops mid ω f σ) (flow_at ops out ω) (go_on k f σ)
   goes_on ops mid out ω Next k σ m = m
   goes_on ops mid out ω Broke k σ m = here θ fs Flow (flow_at ops out ω) Broke σ
   goes_on ops mid out ω Again k σ m = here θ fs Flow (flow_at ops out ω) Again σ
@@ -369,7 +369,7 @@ module _ (ρ : Running) (fs : List (List Instr)) (call : Calls) (values : AllMea
   -- The other turns of a loop.
   turned : (ops : List Value) (mid out : ℕ) (ω : Ways) (f : Flow) (k : Does) (σ : State)
       → Meet Flow (on mid ops σ) (flow_at ops out ω) (k σ)
-      → Meet Flow (flow_at ops mid (looped ω out mid) f σ) (flow_at ops out ω) (turn_on f k σ)
+      → Meet Flow (flow_at ops mid (looped ω out mid) f σ) (flow_at ops out ω) (turn_on k f σ)
   turned ops mid out ω Next k σ m = m
   turned ops mid out ω Broke k σ m = here θ fs Flow (flow_at ops out ω) Next σ
   turned ops mid out ω Again k σ m = m

@@ -33,6 +33,7 @@ use Rattle.source_meaning.specs.Types as type
 use Rattle.source_meaning.specs.layer.Parts.{parameters_in}
 use Rattle.source_meaning.specs.Running.{parameters_of}
 use Rattle.source_meaning.specs.Expressions as mean
+use Rattle.source_meaning.specs.layer.Parts as parts
 use Rattle.source_meaning.specs.Expressions.{type_of, types_of}
 use Rattle.stack_code.specs.declared.instruction.Instr.{Instr}
 use Rattle.stack_code.specs.declared.instruction.ValueWork.TheVariants as make
@@ -267,7 +268,7 @@ module _ (program : Checked) (kept : IsRanged program) (types : HasFormedTypes p
           → IsFormed Makes e → Throughout IsConstant e → Fit (code.value_code ς strict e)
       value_fits (Is at attr kind) locals how m f w =
           joined (code.given_code ς strict at attr kind) _ (given at attr kind locals how m f.0 f.1 w.0 w.1)
-          (chosen (mean.is_lvalue attr.form) _ _ (held strict (mean.inner_place_in at kind) attr.ctype) tt)
+          (chosen (parts.is_lvalue attr.form) _ _ (held strict (mean.inner_place (Is at attr kind)) attr.ctype) tt)
 
       -- The code of its place.
       pub address_fits : (e : Expr) (locals : List CType) (how : Use) → MeetsExpr program locals how e
@@ -297,7 +298,7 @@ module _ (program : Checked) (kept : IsRanged program) (types : HasFormedTypes p
           (arguments cs args l _ (conversions_fit (types_of args) us (parameters_formed n)) m.3 f w) (tt, tt)
       given at attr (Call (target.Library x) args) l how m t f c w =
           let cs = map type.parameter_conversion (call_parameters x) in
-          chosen (mean.is_printf x) _ _ (printed at args l _ m.1 f.1 w)
+          chosen (parts.is_printf x) _ _ (printed at args l _ m.1 f.1 w)
           (joined (code.arguments_code ς strict cs args) _
           (arguments cs args l _ (parameters_fit (call_parameters x)) m.1 f.1 w) (tt, tt))
       given at attr (Member a index) l how m t f c w =
@@ -379,8 +380,8 @@ module _ (program : Checked) (kept : IsRanged program) (types : HasFormedTypes p
       dropped : (e : Expr) (front : List Instr) (locals : List CType) (how : Use) → MeetsExpr program locals how e
           → IsFormed Makes e → Throughout IsConstant e → Fit front → Fit (code.dropped_code ς strict e front)
       dropped (Is at attr kind) front l how m f w p =
-          chosen (mean.is_lvalue attr.form) _ _
-          (joined front _ p (popped at _ (held strict (mean.inner_place_in at kind) attr.ctype)))
+          chosen (parts.is_lvalue attr.form) _ _
+          (joined front _ p (popped at _ (held strict (mean.inner_place (Is at attr kind)) attr.ctype)))
           (dropped_kind at attr kind front l how m f.1 w.1 p)
 
       dropped_address : (e : Expr) (front : List Instr) (locals : List CType) (how : Use)

@@ -131,7 +131,7 @@ module _ (σ : Structs) (fine : AreFine σ.completed) where
       (nat_le (base_layout (layout_in σ.completed) b).size most_bytes) h in
       (p.0, leb-true (base_layout (layout_in σ.completed) b).size most_bytes p.1)
 
-  bytes_are : (b : Base) → AreBytes (type.bytes_of σ b)
+  bytes_are : (b : Base) → AreBytes (parts.bytes_of σ b)
   bytes_are b =
       bytes_by σ (fits b) (base_layout (layout_in σ.completed) b) (λ h.
       let p = fit_parts b h in (some_bytes σ.completed fine b p.0, p.1))

@@ -25,7 +25,7 @@ use Rattle.typed_tree.specs.layer.Judged.{facts_at}
 use Rattle.typed_tree.specs.layer.TypedNodes.{MeetsKind}
 use Rattle.thread_steps.specs.declared.cast.CastTo.{CastTo}
 use Rattle.thread_steps.specs.declared.cast.CastTo.TheVariants as to
-use Rattle.source_meaning.specs.Types.{pointer_conversion, base_conversion, conversion}
+use Rattle.source_meaning.specs.Types.{pointer_conversion, conversion, base_conversion}
 use Rattle.meaning_laws.specs.layer.Values.{IsNumber, IsOf}
 use Rattle.meaning_laws.specs.layer.Uses.{IsTaken}
 use Rattle.meaning_laws.specs.code.Laws.{ChoicesAreTaken}

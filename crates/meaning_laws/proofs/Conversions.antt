@@ -25,7 +25,7 @@ use Rattle.thread_steps.specs.Pointers.{local_value}
 use Rattle.thread_steps.specs.Operators.{cast, cast_value}
 use Rattle.thread_steps.specs.Values as values
 use Rattle.thread_steps.proofs.Conversions.{converted_in}
-use Rattle.source_meaning.specs.Types.{target_of, pointer_conversion, base_conversion, conversion, cell_kind}
+use Rattle.source_meaning.specs.Types.{target_of, pointer_conversion, conversion, cell_kind, base_conversion}
 use Rattle.meaning_laws.specs.layer.Values.{FitsCell, IsOf, IsOfBase, HasIntegerKind, Brings}
 use Rattle.meaning_laws.specs.code.Laws.{CellsKeep, ConversionsFit}
 use Rattle.meaning_laws.proofs.Steps.{ResultIs, valued_brings}

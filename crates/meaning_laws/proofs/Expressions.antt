@@ -59,8 +59,9 @@ use Rattle.thread_steps.specs.Library as l
 use Rattle.source_meaning.specs.Types as t
 use Rattle.source_meaning.specs.layer.Parts.{parameters_in}
 use Rattle.source_meaning.specs.Types.{conversion, cell_kind, target_of}
-use Rattle.source_meaning.specs.Running.{Running, running, start_in, shared_object, parameters_of}
+use Rattle.source_meaning.specs.Running.{Running, running, shared_object, parameters_of, start_in}
 use Rattle.source_meaning.specs.Expressions as e
+use Rattle.source_meaning.specs.layer.Parts as own_parts
 use Rattle.source_meaning.specs.Expressions.{Calls, type_of}
 use Rattle.source_meaning.specs.Laws.{AreSoMany}
 use Rattle.meaning_laws.specs.layer.Values.{FitsCell, IsNumber, IsOf, IsPlaceOf, IsGiven, IsGivenBy, IsFormedType}
@@ -133,7 +134,7 @@ module _ (structs : Structs) where
   choice_no_array x a c None k None = no_array_value c.ctype
 
   choice_form : (x : Constant) (a c : Attr) (j k : Option Kind) (u : Option CType)
-      → e.is_lvalue (choice_attr x a c j k u).form ≡ false
+      → own_parts.is_lvalue (choice_attr x a c j k u).form ≡ false
   choice_form x a c (Some j) (Some k) u = refl
   choice_form x a c (Some j) None (Some u) = refl
   choice_form x a c (Some j) None None = refl
@@ -141,24 +142,25 @@ module _ (structs : Structs) where
   choice_form x a c None k None = refl
 
   -- What is given by an expression with this form and type.
-  pub given_as : (a : Attr) (lvalue : Bool) (u : CType) (v : Value) → e.is_lvalue a.form ≡ lvalue → a.ctype ≡ u
+  pub given_as : (a : Attr) (lvalue : Bool) (u : CType) (v : Value) → own_parts.is_lvalue a.form ≡ lvalue → a.ctype ≡ u
       → IsGivenBy structs lvalue u v → IsGiven structs a v
   given_as a lvalue u v ef et h =
       subst (λ (x : Bool). IsGivenBy structs x a.ctype v) (sym ef)
       (subst (λ (w : CType). IsGivenBy structs lvalue w v) (sym et) h)
 
-  pub brings_as : (a : Attr) (lvalue : Bool) (u : CType) (m : Doing Value) → e.is_lvalue a.form ≡ lvalue → a.ctype ≡ u
+  pub brings_as : (a : Attr) (lvalue : Bool) (u : CType) (m : Doing Value) → own_parts.is_lvalue a.form ≡ lvalue
+      → a.ctype ≡ u
       → Brings Value (IsGivenBy structs lvalue u) m → Brings Value (IsGiven structs a) m
   brings_as a lvalue u m ef et h =
       weaker_brings (IsGivenBy structs lvalue u) (IsGiven structs a) m h (λ v g. given_as a lvalue u v ef et g)
 
   object_lvalue : (o : Option CType) (u : CType) (x : Constant) → o ≡ Some u
-      → (e.is_lvalue (object_at o x).form ≡ true) × ((object_at o x).ctype ≡ u)
+      → (own_parts.is_lvalue (object_at o x).form ≡ true) × ((object_at o x).ctype ≡ u)
   object_lvalue (Some w) u x h = (refl, let same : w ≡ u = cc in same)
   object_lvalue None u x h = absurd cc
 
   member_lvalue : (u : CType) (x : Constant) (o : Option Found) (f : Found) → o ≡ Some f
-      → (e.is_lvalue (member_at u x o).form ≡ true) × ((member_at u x o).ctype ≡ at_.member_type u f.ctype)
+      → (own_parts.is_lvalue (member_at u x o).form ≡ true) × ((member_at u x o).ctype ≡ at_.member_type u f.ctype)
   member_lvalue u x (Some g) f h =
       let same : g ≡ f = cc in (refl, ap (λ (i : Found). at_.member_type u i.ctype) same)
   member_lvalue u x None f h = absurd cc
@@ -231,7 +233,7 @@ module _ (program : Checked) (thread budget : ℕ) where
       (λ w g. is_of ρ.structs u w x (integer_kind u f) g)
 
   stepped_given : (oper : StepOperator) (u : CType) (v w : Value) → IsOf ρ.structs u v → IsOf ρ.structs u w
-      → IsOf ρ.structs u (e.step_value ρ oper v w)
+      → IsOf ρ.structs u (own_parts.step_value v w oper)
   stepped_given step.IncrementFirst u v w h g = g
   stepped_given step.DecrementFirst u v w h g = g
   stepped_given step.IncrementAfter u v w h g = h
@@ -293,11 +295,12 @@ module _ (program : Checked) (thread budget : ℕ) where
         let said = member_lvalue ρ.structs u x (member_named structs u name) member.0 member.1 in
         let block : block_of attr.ctype ≡ at_.member_block (block_of u) =
         ap (λ (y : Attr). block_of y.ctype) is ∙ ap block_of said.1 ∙ member_type_block u member.0.ctype in
-        brings_as ρ.structs attr true attr.ctype _ (ap (λ (y : Attr). e.is_lvalue y.form) is ∙ said.0) refl
+        brings_as ρ.structs attr true attr.ctype _ (ap (λ (y : Attr). own_parts.is_lvalue y.form) is ∙ said.0) refl
         (first_brings (IsOf ρ.structs (type_of a)) (IsPlaceOf ρ.structs attr.ctype) (e.value ρ call strict a) _ h
         (λ v hv.
         member_brings ρ.thread ρ.structs u attr.ctype
-        (t.target_offset ρ.structs (target_of (type_of a)) index) at v (struct_formed structs u name named) f block
+        (own_parts.target_offset ρ.structs index (target_of (type_of a))) at v
+        (struct_formed structs u name named) f block
         (is_place ρ.structs (base_of (attr_of a).ctype) u v q hv)))
 
     -- ---- calls that allocate
@@ -372,7 +375,7 @@ module _ (program : Checked) (thread budget : ℕ) where
       value_keeps how (Is at attr kind) h f =
           first_brings (IsGiven ρ.structs attr) (IsOf ρ.structs attr.ctype) (e.given ρ call strict at attr kind) _
           (given_keeps how at attr kind h f.0 f.1) (λ v g.
-          value_in_brings ρ strict (e.is_lvalue attr.form) (e.inner_place_in at kind) attr.ctype v f.0 g)
+          value_in_brings ρ strict (own_parts.is_lvalue attr.form) (e.inner_place (Is at attr kind)) attr.ctype v f.0 g)
 
       pub address_keeps : (how : Use) (a : Expr) → MeetsExpr program locals how a → IsFormed Makes a
           → Brings Value (IsGiven ρ.structs (attr_of a)) (e.address ρ call strict a)
@@ -394,11 +397,11 @@ module _ (program : Checked) (thread budget : ℕ) where
           as_said ρ.structs attr _ _ h.2.1.is
           (give_brings (IsGiven ρ.structs (at_.size_attr (facts_at program h.2.0) oper h.0.ctype)) _ tt)
       given_keeps how at attr (tree.Object where_) h f g =
-          brings_as ρ.structs attr true attr.ctype _ (ap (λ (x : Attr). e.is_lvalue x.form) h.2.1.is) refl
+          brings_as ρ.structs attr true attr.ctype _ (ap (λ (x : Attr). own_parts.is_lvalue x.form) h.2.1.is) refl
           (object_brings attr where_ f g)
       given_keeps how at attr (tree.Callee called) h f g = absurd h
       given_keeps how at attr (tree.Format bytes) h f g =
-          brings_as ρ.structs attr false int _ (ap (λ (x : Attr). e.is_lvalue x.form) h.1.is)
+          brings_as ρ.structs attr false int _ (ap (λ (x : Attr). own_parts.is_lvalue x.form) h.1.is)
           (ap (λ (x : Attr). x.ctype) h.1.is) (give_brings (IsOf ρ.structs int) _ tt)
       given_keeps how at attr (tree.Paren a) h f g =
           as_said ρ.structs attr (attr_of a) _ h.0 (address_keeps how a h.1 g)
@@ -411,7 +414,8 @@ module _ (program : Checked) (thread budget : ℕ) where
           (at_.element_address (facts_at program h.0.0) (attr_of a) (attr_of i) (base_target (base (attr_of a))))
           leads.1 in
           let same : attr.ctype ≡ leads.0 = ap (λ (y : Attr). y.ctype) h.0.1.is ∙ said.1 in
-          brings_as ρ.structs attr true attr.ctype _ (ap (λ (y : Attr). e.is_lvalue y.form) h.0.1.is ∙ said.0) refl
+          brings_as ρ.structs attr true attr.ctype _
+          (ap (λ (y : Attr). own_parts.is_lvalue y.form) h.0.1.is ∙ said.0) refl
           (first_brings (IsOf ρ.structs (type_of a)) (IsPlaceOf ρ.structs attr.ctype) (e.value ρ call strict a) _
           (value_keeps n.Indexed a h.1 g.0) (λ q hq.
           first_brings (IsOf ρ.structs (type_of i)) (IsPlaceOf ρ.structs attr.ctype) (e.value ρ call strict i) _
@@ -421,7 +425,7 @@ module _ (program : Checked) (thread budget : ℕ) where
           (is_place ρ.structs (base_of (attr_of a).ctype) leads.0 q leads.1 hq) in
           first_brings (IsPlaceOf ρ.structs attr.ctype) (IsPlaceOf ρ.structs attr.ctype)
           (e.behind ρ at attr.ctype q (number_of j)) _ (behind_brings ρ at attr.ctype q (number_of j) place) (λ r hr.
-          first_brings Any (IsPlaceOf ρ.structs attr.ctype) (e.within_row at (e.dimension a) q (number_of j)) _
+          first_brings Any (IsPlaceOf ρ.structs attr.ctype) (own_parts.within_row at q (number_of j) (e.dimension a)) _
           (within_row_brings ρ at (e.dimension a) q (number_of j)) (λ u hu.
           give_brings (IsPlaceOf ρ.structs attr.ctype) r hr)))))
       given_keeps how at attr (tree.Call (callee.Function i) args) h f g =
@@ -429,7 +433,7 @@ module _ (program : Checked) (thread budget : ℕ) where
           let at_type : parameters_of ρ i ≡ h.1.function.parameters = ap parameters_in h.1.found in
           let formed : Each IsFormedType ts =
           subst (λ (us : List CType). Each IsFormedType us) (sym at_type) (fit.formed i h.1.function h.1.found) in
-          brings_as ρ.structs attr false h.1.function.result _ (ap (λ (x : Attr). e.is_lvalue x.form) h.2.1.is)
+          brings_as ρ.structs attr false h.1.function.result _ (ap (λ (x : Attr). own_parts.is_lvalue x.form) h.2.1.is)
           (ap (λ (x : Attr). x.ctype) h.2.1.is ∙ h.1.result)
           (first_brings (Goes ts []) (IsOf ρ.structs h.1.function.result)
           (e.arguments ρ call strict (t.conversions (e.types_of args) ts) args []) _
@@ -438,7 +442,7 @@ module _ (program : Checked) (thread budget : ℕ) where
           (subst (λ (us : List CType). AreFor ρ.structs us vs) at_type
           (subst (λ (ws : List Value). AreFor ρ.structs ts ws) (sym hv.1) hv.2))))
       given_keeps how at attr (tree.Call (callee.Library c.Printf) args) h f g =
-          brings_as ρ.structs attr false int _ (ap (λ (y : Attr). e.is_lvalue y.form) h.0.1.is)
+          brings_as ρ.structs attr false int _ (ap (λ (y : Attr). own_parts.is_lvalue y.form) h.0.1.is)
           (ap (λ (y : Attr). y.ctype) h.0.1.is) (printed_keeps (uses_by (m.Library c.Printf)) args h.1 g.1)
       given_keeps how at attr (tree.Call (callee.Library c.GlobalAlloc) (AndExpr a (AndExpr i NoExprs))) h f g =
           let uses = uses_by (m.Library c.GlobalAlloc) in
@@ -456,7 +460,7 @@ module _ (program : Checked) (thread budget : ℕ) where
           (number_cast kind.ULong (place_of i) y) (λ z hz.
           give_brings (AreNumbers 2) (w ∷ z ∷ []) (hw, (hz, tt))))))
           in
-          brings_as ρ.structs attr false (at_.allocated how) _ (ap (λ (y : Attr). e.is_lvalue y.form) h.0.1.is)
+          brings_as ρ.structs attr false (at_.allocated how) _ (ap (λ (y : Attr). own_parts.is_lvalue y.form) h.0.1.is)
           (ap (λ (y : Attr). y.ctype) h.0.1.is)
           (weaker_brings (Fits (kind.Shared begins.0 begins.1)) (IsOf ρ.structs (at_.allocated how)) _
           (first_brings (AreNumbers 2) (Fits (kind.Shared begins.0 begins.1))
@@ -477,7 +481,7 @@ module _ (program : Checked) (thread budget : ℕ) where
           (number_cast kind.ULong (place_of a) v) (λ w hw.
           give_brings (AreNumbers 1) (w ∷ []) (hw, tt)))
           in
-          brings_as ρ.structs attr false (at_.allocated how) _ (ap (λ (y : Attr). e.is_lvalue y.form) h.0.1.is)
+          brings_as ρ.structs attr false (at_.allocated how) _ (ap (λ (y : Attr). own_parts.is_lvalue y.form) h.0.1.is)
           (ap (λ (y : Attr). y.ctype) h.0.1.is)
           (weaker_brings (Fits (kind.Shared begins.0 begins.1)) (IsOf ρ.structs (at_.allocated how)) _
           (first_brings (AreNumbers 1) (Fits (kind.Shared begins.0 begins.1))
@@ -509,7 +513,7 @@ module _ (program : Checked) (thread budget : ℕ) where
           both_brings (AreNumbers 2) (MayMeet ρ.thread begins.0 begins.1 shape) _ sizes
           (((all_form_calls program).each thread budget).formed call strict c.AllAlloc shape args tt there.0 there.1)
           in
-          brings_as ρ.structs attr false (at_.allocated how) _ (ap (λ (y : Attr). e.is_lvalue y.form) h.0.1.is)
+          brings_as ρ.structs attr false (at_.allocated how) _ (ap (λ (y : Attr). own_parts.is_lvalue y.form) h.0.1.is)
           (ap (λ (y : Attr). y.ctype) h.0.1.is)
           (weaker_brings (Fits (kind.Shared begins.0 begins.1)) (IsOf ρ.structs (at_.allocated how)) _
           (first_brings Meets (Fits (kind.Shared begins.0 begins.1)) (e.arguments ρ call strict into args []) _ meets
@@ -517,16 +521,16 @@ module _ (program : Checked) (thread budget : ℕ) where
           begins.2)
       given_keeps how at attr (tree.Call (callee.Library c.AllAlloc) args) h f g = absurd (all_count how attr args h)
       given_keeps how at attr (tree.Call (callee.Library c.GlobalLockAlloc) args) h f g =
-          brings_as ρ.structs attr false lock_pointer _ (ap (λ (y : Attr). e.is_lvalue y.form) h.0.1.is)
+          brings_as ρ.structs attr false lock_pointer _ (ap (λ (y : Attr). own_parts.is_lvalue y.form) h.0.1.is)
           (ap (λ (y : Attr). y.ctype) h.0.1.is)
           (global_lock_brings ρ.thread (e.allocated_shape ρ c.GlobalLockAlloc attr.ctype) at)
       given_keeps how at attr (tree.Call (callee.Library c.AllLockAlloc) args) h f g =
-          brings_as ρ.structs attr false lock_pointer _ (ap (λ (y : Attr). e.is_lvalue y.form) h.0.1.is)
+          brings_as ρ.structs attr false lock_pointer _ (ap (λ (y : Attr). own_parts.is_lvalue y.form) h.0.1.is)
           (ap (λ (y : Attr). y.ctype) h.0.1.is)
           (all_lock_brings ρ.thread (e.allocated_shape ρ c.AllLockAlloc attr.ctype) at)
       given_keeps how at attr (tree.Call (callee.Library call_) args) h f g =
           let into = map t.parameter_conversion (call_parameters call_) in
-          brings_as ρ.structs attr false (call_result call_) _ (ap (λ (y : Attr). e.is_lvalue y.form) h.0.1.is)
+          brings_as ρ.structs attr false (call_result call_) _ (ap (λ (y : Attr). own_parts.is_lvalue y.form) h.0.1.is)
           (ap (λ (y : Attr). y.ctype) h.0.1.is)
           (first_brings Any (IsOf ρ.structs (call_result call_)) (e.arguments ρ call strict into args []) _
           (any_arguments into (uses_by (m.Library call_)) args [] h.1 g.1) (λ vs hv.
@@ -542,7 +546,8 @@ module _ (program : Checked) (thread budget : ℕ) where
           let block : block_of attr.ctype ≡ at_.member_block (block_of (attr_of a).ctype) =
           ap (λ (y : Attr). block_of y.ctype) h.2.is ∙ ap block_of said.1
           ∙ member_type_block (attr_of a).ctype member.0.ctype in
-          brings_as ρ.structs attr true attr.ctype _ (ap (λ (y : Attr). e.is_lvalue y.form) h.2.is ∙ said.0) refl
+          brings_as ρ.structs attr true attr.ctype _
+          (ap (λ (y : Attr). own_parts.is_lvalue y.form) h.2.is ∙ said.0) refl
           (first_brings (IsGiven ρ.structs (attr_of a)) (IsPlaceOf ρ.structs attr.ctype) (e.address ρ call strict a) _
           (address_keeps n.Plain a h.4 g.1) (λ q hq.
           member_brings ρ.thread ρ.structs (attr_of a).ctype attr.ctype
@@ -590,7 +595,7 @@ module _ (program : Checked) (thread budget : ℕ) where
           let leads = pointed (attr_of a) (holds (points (attr_of a)) rule) in
           let said = object_lvalue ρ.structs (base_target (base (attr_of a))) leads.0 (at_.constant_of
           (attr_of a)) leads.1 in
-          brings_as ρ.structs attr true leads.0 _ (ap (λ (y : Attr). e.is_lvalue y.form) h.0.1.is ∙ said.0)
+          brings_as ρ.structs attr true leads.0 _ (ap (λ (y : Attr). own_parts.is_lvalue y.form) h.0.1.is ∙ said.0)
           (ap (λ (y : Attr). y.ctype) h.0.1.is ∙ said.1)
           (weaker_brings (IsOf ρ.structs (type_of a)) (IsPlaceOf ρ.structs leads.0) (e.value ρ call strict a)
           (value_keeps n.Plain a h.1 g)
@@ -605,7 +610,7 @@ module _ (program : Checked) (thread budget : ℕ) where
           let u = value_type h.0.ctype in
           let same : attr.ctype ≡ u = ap (λ (y : Attr). y.ctype) h.1.1.is in
           let plain = subst (λ (w : CType). IsNoArray (base_of w)) (sym same) (no_array_value h.0.ctype) in
-          brings_as ρ.structs attr false attr.ctype _ (ap (λ (y : Attr). e.is_lvalue y.form) h.1.1.is) refl
+          brings_as ρ.structs attr false attr.ctype _ (ap (λ (y : Attr). own_parts.is_lvalue y.form) h.1.1.is) refl
           (first_brings (IsOf ρ.structs (type_of a)) (IsOf ρ.structs attr.ctype) (e.value ρ call strict a) _
           (value_keeps (n.Into h.0.ctype) a h.2 g) (λ v hv. cast_brings (type_of a) attr.ctype at v f plain hv))
       given_keeps how at attr (tree.Binary oper a c) h f g =
@@ -620,7 +625,7 @@ module _ (program : Checked) (thread budget : ℕ) where
           binary_brings ρ φ at (attr_of a) (attr_of c) v w hv hw oper (holds (fits oper (attr_of a)
           (attr_of c)) rule))))
       given_keeps how at attr (tree.And a c) h f g =
-          brings_as ρ.structs attr false int _ (ap (λ (y : Attr). e.is_lvalue y.form) h.0.1.is)
+          brings_as ρ.structs attr false int _ (ap (λ (y : Attr). own_parts.is_lvalue y.form) h.0.1.is)
           (ap (λ (y : Attr). y.ctype) h.0.1.is)
           (first_brings (IsOf ρ.structs (type_of a)) (IsOf ρ.structs int) (e.value ρ call strict a) _
           (value_keeps n.Plain a h.1 g.0) (λ v hv.
@@ -628,7 +633,7 @@ module _ (program : Checked) (thread budget : ℕ) where
           (e.truth_after ρ (e.value ρ call strict c)) (truth_brings false)
           (truth_after_brings c (value_keeps n.Plain c h.2 g.1))))
       given_keeps how at attr (tree.Or a c) h f g =
-          brings_as ρ.structs attr false int _ (ap (λ (y : Attr). e.is_lvalue y.form) h.0.1.is)
+          brings_as ρ.structs attr false int _ (ap (λ (y : Attr). own_parts.is_lvalue y.form) h.0.1.is)
           (ap (λ (y : Attr). y.ctype) h.0.1.is)
           (first_brings (IsOf ρ.structs (type_of a)) (IsOf ρ.structs int) (e.value ρ call strict a) _
           (value_keeps n.Plain a h.1 g.0) (λ v hv.
@@ -642,7 +647,7 @@ module _ (program : Checked) (thread budget : ℕ) where
           let same : attr.ctype ≡ said.ctype = ap (λ (y : Attr). y.ctype) h.0.1.is in
           let plain = subst (λ (w : CType). IsNoArray (base_of w)) (sym same)
           (choice_no_array ρ.structs (attr_of test).constant (attr_of a) (attr_of c) k j o) in
-          brings_as ρ.structs attr false attr.ctype _ (ap (λ (y : Attr). e.is_lvalue y.form) h.0.1.is
+          brings_as ρ.structs attr false attr.ctype _ (ap (λ (y : Attr). own_parts.is_lvalue y.form) h.0.1.is
           ∙ choice_form ρ.structs (attr_of test).constant (attr_of a) (attr_of c) k j o) refl
           (first_brings (IsOf ρ.structs (type_of test)) (IsOf ρ.structs attr.ctype) (e.value ρ call strict test) _
           (value_keeps n.Plain test h.1 g.0) (λ v hv.

@@ -127,10 +127,11 @@ module _ (τ : Thread) where
   notify_brings at mark =
       first_brings Any Any (fault_if a.is_controlled BARRIER_IN_FORALL at) _
       (fault_if_brings a.is_controlled BARRIER_IN_FORALL at) (λ u v.
-      first_brings Any Any (fault_if a.is_notified PHASE_ORDER at) _ (fault_if_brings a.is_notified PHASE_ORDER at)
+      first_brings Any Any (fault_if parts.is_notified PHASE_ORDER at) _
+      (fault_if_brings parts.is_notified PHASE_ORDER at)
       (λ w x.
       first_brings Any Any (a.does τ at (act.Notify mark)) _ (does_brings at (act.Notify mark)) (λ y z.
-      change_brings (a.with_notified true) (λ σ i. i) (λ σ. refl))))
+      change_brings (parts.with_notified true) (λ σ i. i) (λ σ. refl))))
 
   pub wait_brings : (at : Place) (mark : Mark) → Brings (Unit {0}) Any (a.wait τ at mark)
   unfolding a.wait
@@ -140,7 +141,7 @@ module _ (τ : Thread) where
       first_brings Any Any (fault_if parts.is_not_notified PHASE_ORDER at) _
       (fault_if_brings parts.is_not_notified PHASE_ORDER at) (λ w x.
       first_brings Any Any (a.does τ at (act.Wait mark)) _ (does_brings at (act.Wait mark)) (λ y z.
-      change_brings (a.with_notified false) (λ σ i. i) (λ σ. refl))))
+      change_brings (parts.with_notified false) (λ σ i. i) (λ σ. refl))))
 
   pub fence_brings : Brings (Unit {0}) Any (a.fence τ)
   unfolding a.fence

@@ -34,6 +34,7 @@ use Rattle.thread_steps.specs.States.{Thread, give, skip, know, choose, over}
 use Rattle.thread_steps.specs.States.{fault_if}
 use Rattle.thread_steps.specs.Values.{number, scalar_of}
 use Rattle.thread_steps.specs.Actions as a
+use Rattle.thread_steps.specs.layer.Parts as parts
 use Rattle.thread_steps.specs.Accesses as x
 use Rattle.thread_steps.specs.Library as l
 use Rattle.meaning_laws.specs.layer.Values.{IsNumber, IsOf, Brings}
@@ -95,7 +96,7 @@ module _ (τ : Thread) where
   meet_brings at =
       first_brings Any Any (fault_if a.is_controlled BARRIER_IN_FORALL at) _
       (fault_if_brings a.is_controlled BARRIER_IN_FORALL at) (λ u v.
-      fault_if_brings a.is_notified PHASE_ORDER at)
+      fault_if_brings parts.is_notified PHASE_ORDER at)
 
   -- The scalar passes as a value.
   abbrev AsValue : (Value → Type 0) → Scalar → Type 0
@@ -109,7 +110,7 @@ module _ (τ : Thread) where
       let meets = choose (is_some (meet_number call_)) (a.meet τ at) skip in
       first_brings Any V meets _
       (choose_brings Any (is_some (meet_number call_)) (a.meet τ at) skip (meet_brings at) skip_brings) (λ u v.
-      first_brings Any V (know l.private_shapes) _ (know_brings l.private_shapes) (λ private w.
+      first_brings Any V (know parts.private_shapes) _ (know_brings parts.private_shapes) (λ private w.
       let e = library_call τ.threads τ.shapes τ.number private call_ shape args in
       first_brings (AsValue V) V (x.run τ at e) _ (run_brings (AsValue V) at e (h private)) (λ z g.
       give_brings V (value.Scalar z) g)))
@@ -128,8 +129,8 @@ module _ (τ : Thread) where
       → Brings Value V (l.library τ call_ shape at args)
   unfolding l.library
   library_by V call_ shape at args n h =
-      choose_brings V (l.is_exit call_) (a.exit τ (l.first_number args)) (l.formed_call τ call_ shape at args)
-      (exit_brings V (l.first_number args))
+      choose_brings V (parts.is_exit call_) (a.exit τ (parts.first_number args)) (l.formed_call τ call_ shape at args)
+      (exit_brings V (parts.first_number args))
       (choose_brings V (l.is_formed τ.shapes call_ shape args) (l.called τ call_ shape at args)
       (give (number (pos 0))) (called_brings V call_ shape at args h) (give_brings V (number (pos 0)) n))
 

@@ -32,10 +32,12 @@ use Rattle.typing_rules.specs.Rules.{adds, fits, moves, points, counts}
 use Rattle.thread_steps.specs.States.{Doing, ◌>>=◌, give, skip, choose, fault, valued}
 use Rattle.thread_steps.specs.Values.{number, number_of, truth_value, is_zero}
 use Rattle.thread_steps.specs.Pointers as p
+use Rattle.thread_steps.specs.layer.Parts as parts
 use Rattle.thread_steps.specs.Operators as o
 use Rattle.source_meaning.specs.Types.{target_of, integer_of, cell_kind, elements_of}
 use Rattle.source_meaning.specs.Running.{Running}
 use Rattle.source_meaning.specs.Expressions as e
+use Rattle.source_meaning.specs.layer.Parts as own_parts
 use Rattle.meaning_laws.specs.layer.Values.{FitsCell, IsNumber, IsOf, IsOfBase, IsPlaceOf, IsGiven, IsGivenBy}
 use Rattle.meaning_laws.specs.layer.Values.{HasIntegerKind, IsFormedType, Brings}
 use Rattle.meaning_laws.proofs.Steps.{Any, give_brings, skip_brings, over_brings, first_brings, weaker_brings}
@@ -188,7 +190,7 @@ unary_brings at oper (Some k) v = apply_brings oper (promoted k) at v
 unary_brings at oper None v = give_brings IsNumber e.no_value tt
 
 integers_brings : (at : Place) (oper : BinOp) (j k : Option Kind) (x y : Value)
-    → Brings Value IsNumber (e.integers at oper j k x y)
+    → Brings Value IsNumber (own_parts.integers at oper j k x y)
 integers_brings at oper (Some j) (Some k) x y = operate_brings oper (working_kind oper j k) (right_kind oper j k) at x y
 integers_brings at oper (Some j) None x y = give_brings IsNumber e.no_value tt
 integers_brings at oper None k x y = give_brings IsNumber e.no_value tt
@@ -228,13 +230,13 @@ module _ (ρ : Running) where
   on_pointers_brings at oper t x y = order_brings oper at t x y
 
   on_pointer_number : (at : Place) (oper : BinOp) (t : CType) (x y : Value) → moves oper ≡ false
-      → Brings Value IsNumber (e.on_pointer ρ at oper t x y)
+      → Brings Value IsNumber (own_parts.on_pointer ρ at t x y oper)
   on_pointer_number at op.Add t x y m = absurd (false≢true (sym m))
   on_pointer_number at op.Subtract t x y m = absurd (false≢true (sym m))
   on_pointer_number at oper t x y m = on_pointers_brings at oper t x y
 
   before_pointer_number : (at : Place) (oper : BinOp) (t : CType) (x y : Value) → moves oper ≡ false
-      → Brings Value IsNumber (e.before_pointer ρ at oper t x y)
+      → Brings Value IsNumber (own_parts.before_pointer ρ at t x y oper)
   before_pointer_number at op.Add t x y m = absurd (false≢true (sym m))
   before_pointer_number at oper t x y m = on_pointers_brings at oper t x y
 
@@ -265,7 +267,7 @@ module _ (ρ : Running) where
     sum_by None (Some u) ea eb m = behind_brings at u y _ (is_place ρ.structs (base_of b.ctype) u y eb of_b)
     sum_by None None ea eb m =
         let given = sum_attr φ a b None None in
-        weaker_brings IsNumber (IsGiven ρ.structs given) (e.integers at op.Add j k x y)
+        weaker_brings IsNumber (IsGiven ρ.structs given) (own_parts.integers at op.Add j k x y)
         (integers_brings at op.Add j k x y)
         (λ v h. arithmetic_given op.Add (base_kind (base a)) (base_kind (base b)) a.constant b.constant v h)
 
@@ -277,10 +279,10 @@ module _ (ρ : Running) where
     difference_by (Some t) (Some u) ea = difference_brings at t x y
     difference_by (Some t) None ea = behind_brings at t x _ (is_place ρ.structs (base_of a.ctype) t x ea of_a)
     difference_by None (Some u) ea =
-        weaker_brings IsNumber _ (e.before_pointer ρ at op.Subtract u x y) (difference_brings at u x y)
+        weaker_brings IsNumber _ (own_parts.before_pointer ρ at u x y op.Subtract) (difference_brings at u x y)
         (λ v h. arithmetic_given op.Subtract (base_kind (base a)) (base_kind (base b)) a.constant b.constant v h)
     difference_by None None ea =
-        weaker_brings IsNumber _ (e.integers at op.Subtract j k x y) (integers_brings at op.Subtract j k x y)
+        weaker_brings IsNumber _ (own_parts.integers at op.Subtract j k x y) (integers_brings at op.Subtract j k x y)
         (λ v h. arithmetic_given op.Subtract (base_kind (base a)) (base_kind (base b)) a.constant b.constant v h)
 
   third : (b c d : Bool) → (b && c && d) ≡ true → d ≡ true
@@ -377,13 +379,13 @@ module _ (ρ : Running) where
   any_phase m h = weaker_brings Any (HasPhase None) m h (λ v u. no_block v)
 
   pointer_phase : (at : Place) (oper : BinOp) (t : CType) (x y : Value) → IsPlaceOf ρ.structs t x
-      → Brings Value (HasPhase (Some t)) (e.on_pointer ρ at oper t x y)
+      → Brings Value (HasPhase (Some t)) (own_parts.on_pointer ρ at t x y oper)
   pointer_phase at op.Add t x y h = behind_phase at t x _ h
   pointer_phase at op.Subtract t x y h = behind_phase at t x _ h
   pointer_phase at oper t x y h = to_phase (Some t) _ (on_pointers_brings at oper t x y)
 
   before_phase : (at : Place) (oper : BinOp) (t : CType) (x y : Value)
-      → Brings Value (HasPhase None) (e.before_pointer ρ at oper t x y)
+      → Brings Value (HasPhase None) (own_parts.before_pointer ρ at t x y oper)
   before_phase at op.Add t x y = any_phase _ (any_behind at t y _)
   before_phase at oper t x y = to_phase None _ (on_pointers_brings at oper t x y)
 
@@ -436,7 +438,7 @@ module _ (ρ : Running) where
   any_held strict at (Qualified types.LockObject c s x) v f n = absurd f
 
   saved_brings : (strict : Bool) (at : Place) (t : CType) (k : Option Kind) (q v : Value)
-      → Brings (Unit {0}) Any (e.saved ρ strict at t k q v)
+      → Brings (Unit {0}) Any (own_parts.saved ρ strict at t q v k)
   saved_brings strict at t (Some k) q v = save_brings ρ.thread k _ at q v
   saved_brings strict at t None q v = skip_brings
 
@@ -451,10 +453,10 @@ module _ (ρ : Running) where
   value_in_brings strict false at t v f h = give_brings (IsOf ρ.structs t) v h
 
   pub within_row_brings : (at : Place) (count : Option ℕ) (q : Value) (i : ℤ)
-      → Brings (Unit {0}) Any (e.within_row at count q i)
+      → Brings (Unit {0}) Any (own_parts.within_row at q i count)
   within_row_brings at None q i = skip_brings
   within_row_brings at (Some count) q i =
-      choose_brings Any _ skip (fault (p.outside q) at) skip_brings (over_brings Any _ (λ σ. tt))
+      choose_brings Any _ skip (fault (parts.outside q) at) skip_brings (over_brings Any _ (λ σ. tt))
 
 pub changes_fit : ChangesFit
 changes_fit = record {

@@ -11,6 +11,7 @@ use Rattle.typing_rules.specs.Nodes.{Attr}
 use Rattle.typing_rules.specs.Rules.{Verdict, lowest_in, or_above, is_modifiable, form_is_lvalue, has_name}
 use Rattle.typing_rules.specs.Rules.{names_member}
 use Rattle.source_meaning.specs.Expressions as e
+use Rattle.source_meaning.specs.layer.Parts as parts
 use Rattle.typing_rules.specs.declared.attribute.Form.{Form}
 use Rattle.typing_rules.specs.declared.attribute.Form.TheVariants as form
 use Rattle.meaning_laws.specs.layer.Values.{IsFormedType}
@@ -51,13 +52,13 @@ pub has_target : (o : Option CType) → present o ≡ true → (t : CType) × (o
 has_target (Some t) h = (t, refl)
 has_target None h = absurd (false≢true h)
 
-same_form : (f : Form) → form_is_lvalue f ≡ e.is_lvalue f
+same_form : (f : Form) → form_is_lvalue f ≡ parts.is_lvalue f
 same_form (form.Lvalue address) = refl
 same_form form.Value = refl
 same_form form.Callable = refl
 same_form form.Text = refl
 
-pub lvalue_form : (f : Form) → form_is_lvalue f ≡ true → e.is_lvalue f ≡ true
+pub lvalue_form : (f : Form) → form_is_lvalue f ≡ true → parts.is_lvalue f ≡ true
 lvalue_form f h = sym (same_form f) ∙ h
 
 no_array : (b : Base) → base_is_array b ≡ false → IsNoArray b

@@ -51,7 +51,8 @@ use Rattle.source_meaning.specs.Running.{Running, running}
 use Rattle.source_meaning.specs.Expressions as e
 use Rattle.source_meaning.specs.Expressions.{Calls, type_of}
 use Rattle.source_meaning.specs.Statements as s
-use Rattle.source_meaning.specs.Statements.{Flow, Next, Broke, Again, Gave, Does, Standing}
+use Rattle.source_meaning.specs.layer.Parts.{Does}
+use Rattle.source_meaning.specs.Statements.{Flow, Next, Broke, Again, Gave, Standing}
 use Rattle.source_meaning.specs.Threads as h
 use Rattle.meaning_laws.specs.layer.Values.{FitsCell, IsOf, IsFormedType, Brings}
 use Rattle.meaning_laws.specs.layer.Formed.{MakesShaped, IsFormed, AreFormed, CallsFit}
@@ -89,19 +90,19 @@ module _ (kind : Option Kind) where
   abbrev Flows : Flow → Type 0
   Flows f = LeavesBy kind f
 
-  go_on_brings : (f : Flow) (m : Does) → Flows f → Brings Flow Flows m → Brings Flow Flows (s.go_on f m)
+  go_on_brings : (f : Flow) (m : Does) → Flows f → Brings Flow Flows m → Brings Flow Flows (parts.go_on m f)
   go_on_brings Next m g q = q
   go_on_brings Broke m g q = give_brings Flows Broke tt
   go_on_brings Again m g q = give_brings Flows Again tt
   go_on_brings (Gave v) m g q = give_brings Flows (Gave v) g
 
-  turn_on_brings : (f : Flow) (m : Does) → Flows f → Brings Flow Flows m → Brings Flow Flows (s.turn_on f m)
+  turn_on_brings : (f : Flow) (m : Does) → Flows f → Brings Flow Flows m → Brings Flow Flows (parts.turn_on m f)
   turn_on_brings Next m g q = q
   turn_on_brings Broke m g q = give_brings Flows Next tt
   turn_on_brings Again m g q = q
   turn_on_brings (Gave v) m g q = give_brings Flows (Gave v) g
 
-  caught_flows : (f : Flow) → Flows f → Flows (s.caught f)
+  caught_flows : (f : Flow) → Flows f → Flows (parts.caught f)
   caught_flows Next g = tt
   caught_flows Broke g = tt
   caught_flows Again g = tt
@@ -187,23 +188,24 @@ module _ (program : Checked) (thread budget : ℕ) where
 
   module _ (call : Calls) (fit : CallsFit ρ call) where
     evaluated_brings : (locals : List CType) (how : Use) (κ : Standing) (c : Expr) → MeetsExpr program locals how c
-        → IsFormed Makes c → Brings Value Any (s.evaluated ρ call κ c)
+        → IsFormed Makes c → Brings Value Any (parts.evaluated ρ call κ c)
     evaluated_brings locals how κ c m f =
         weaker_brings (IsOf ρ.structs (type_of c)) Any (e.value ρ call κ.strict c)
         (value_keeps program thread budget call fit locals κ.strict how c m f) (λ v g. tt)
 
     converted_brings : (locals : List CType) (how : Use) (κ : Standing) (u : CType) (c : Expr)
         → MeetsExpr program locals how c → IsFormed Makes c
-        → Brings Value Any (e.converted_to ρ u c (s.evaluated ρ call κ c))
+        → Brings Value Any (e.converted_to ρ u c (parts.evaluated ρ call κ c))
     converted_brings locals how κ u c m f =
-        first_brings Any Any (s.evaluated ρ call κ c) _ (evaluated_brings locals how κ c m f) (λ v g.
+        first_brings Any Any (parts.evaluated ρ call κ c) _ (evaluated_brings locals how κ c m f) (λ v g.
         any_cast program thread budget _ (place_of c) v)
 
     aside_brings : (kind : Option Kind) (locals : List CType) (κ : Standing) (c : Option Expr)
         → MeetsValue program locals c → IsFormedValue Makes c → Brings Flow (LeavesBy kind) (s.aside ρ call κ c)
     aside_brings kind locals κ None m f = give_brings (LeavesBy kind) Next tt
     aside_brings kind locals κ (Some c) m f =
-        first_brings Any (LeavesBy kind) (s.evaluated ρ call κ c) _ (evaluated_brings locals n.Plain κ c m f) (λ v g.
+        first_brings Any (LeavesBy kind) (parts.evaluated ρ call κ c) _ (evaluated_brings locals n.Plain κ c m f)
+        (λ v g.
         give_brings (LeavesBy kind) Next tt)
 
     tested_brings : (locals : List CType) (κ : Standing) (c : Option Expr) → MeetsValue program locals c
@@ -221,7 +223,7 @@ module _ (program : Checked) (thread budget : ℕ) where
         let rest = LeavesBy kind in
         first_brings Any rest (know a.is_controlled) _ (know_brings a.is_controlled) (λ v y.
         choose_brings rest v (s.controlling ρ m) _ (controlling_brings kind ρ m pm)
-        (first_brings Any rest (s.evaluated ρ call κ c) _ (evaluated_brings locals n.Plain κ c g.1 f) (λ w x.
+        (first_brings Any rest (parts.evaluated ρ call κ c) _ (evaluated_brings locals n.Plain κ c g.1 f) (λ w x.
         first_brings Any rest (b.mine ρ.thread (place_of c) w) _ (mine_brings ρ.thread (place_of c) w) (λ z q.
         choose_brings rest (is_zero z) (give Next) (s.controlling ρ m) (give_brings rest Next tt)
         (controlling_brings kind ρ m pm)))))
@@ -234,7 +236,7 @@ module _ (program : Checked) (thread budget : ℕ) where
         let u = s.element_type (base_of y.ctype) y.ctype in
         first_brings Any Any (e.object ρ y.home) _ (any_object ρ y.home) (λ q g.
         first_brings Any Any (e.behind ρ y.at u q (pos i)) _ (any_behind ρ y.at u q (pos i)) (λ r x.
-        first_brings Any Any (e.converted_to ρ u c (s.evaluated ρ call κ c)) _
+        first_brings Any Any (e.converted_to ρ u c (parts.evaluated ρ call κ c)) _
         (converted_brings locals how κ u c m.0 f.0) (λ v w.
         first_brings Any Any (e.put ρ κ.strict y.at u r v) _ (put_brings ρ κ.strict y.at u r v) (λ z j.
         listed_brings locals how κ y (i + 1) more m.2 f.1))))
@@ -245,7 +247,7 @@ module _ (program : Checked) (thread budget : ℕ) where
     initialised_brings locals κ y NoInitial m f = skip_brings
     initialised_brings locals κ y (InitialValue c) m f =
         first_brings Any Any (e.object ρ y.home) _ (any_object ρ y.home) (λ q g.
-        first_brings Any Any (e.converted_to ρ y.ctype c (s.evaluated ρ call κ c)) _
+        first_brings Any Any (e.converted_to ρ y.ctype c (parts.evaluated ρ call κ c)) _
         (converted_brings locals (n.Into y.ctype) κ y.ctype c m.1 f) (λ v w.
         put_brings ρ κ.strict y.at y.ctype q v))
     initialised_brings locals κ y (InitialList cs) m f =
@@ -274,7 +276,7 @@ module _ (program : Checked) (thread budget : ℕ) where
         → MeetsBy program c locals (Synchronise how v) → IsFormedValue Makes v → Brings Mark Any (s.marked ρ call κ v)
     marked_brings locals κ how c None m f = give_brings Any _ tt
     marked_brings locals κ how c (Some x) m f =
-        first_brings Any Any (s.evaluated ρ call κ x) _ (evaluated_brings locals n.Plain κ x m.1 f) (λ v g.
+        first_brings Any Any (parts.evaluated ρ call κ x) _ (evaluated_brings locals n.Plain κ x m.1 f) (λ v g.
         give_brings Any _ tt)
 
     -- ---- statements of a function with this result
@@ -288,10 +290,10 @@ module _ (program : Checked) (thread budget : ℕ) where
 
       returned_brings : (locals : List CType) (κ : Standing) (how : Use) (x : Expr) → κ.result ≡ result
           → MeetsExpr program locals how x → IsFormed Makes x
-          → Brings Value (FitsCell kind_of_result) (e.converted_to ρ κ.result x (s.evaluated ρ call κ x))
+          → Brings Value (FitsCell kind_of_result) (e.converted_to ρ κ.result x (parts.evaluated ρ call κ x))
       returned_brings locals κ how x q m f =
           subst
-          (λ (u : CType). Brings Value (FitsCell kind_of_result) (e.converted_to ρ u x (s.evaluated ρ call κ x)))
+          (λ (u : CType). Brings Value (FitsCell kind_of_result) (e.converted_to ρ u x (parts.evaluated ρ call κ x)))
           (sym q) (converted_fits program thread budget call fit locals κ.strict how x result m f formed)
 
       mutual
@@ -311,21 +313,21 @@ module _ (program : Checked) (thread budget : ℕ) where
             arms_bring c locals κ arms (s.run_last ρ call κ last) q r m.1 f.0
             (last_brings c locals κ last q r m.2 f.1)
         kind_brings c locals κ at (Switch x items) q r m f =
-            first_brings Any Left (s.evaluated ρ call κ x) _ (evaluated_brings locals n.Plain κ x m.0 f.0) (λ v g.
+            first_brings Any Left (parts.evaluated ρ call κ x) _ (evaluated_brings locals n.Plain κ x m.0 f.0) (λ v g.
             let label = label_kind (t.integer_of (type_of x)) (number_of v) in
             first_brings Left Left (s.from_case ρ call κ label items (s.from_default ρ call κ items)) _
             (case_brings (in_switch c) locals κ label items (s.from_default ρ call κ items) q r m.2 f.1
             (default_brings (in_switch c) locals κ items q r m.2 f.1)) (λ w y.
-            give_brings Left (s.caught w) (caught_flows kind_of_result w y)))
+            give_brings Left (parts.caught w) (caught_flows kind_of_result w y)))
         kind_brings c locals κ at (While test body) q r m f =
-            loop_brings kind_of_result ρ (s.evaluated ρ call κ test) (s.run ρ call κ body) (give Next)
+            loop_brings kind_of_result ρ (parts.evaluated ρ call κ test) (s.run ρ call κ body) (give Next)
             (evaluated_brings locals n.Plain κ test m.1 f.0) (run_brings (in_loop c) locals κ body q r m.2 f.1)
             (give_brings Left Next tt)
         kind_brings c locals κ at (DoWhile body test) q r m f =
             let each = run_brings (in_loop c) locals κ body q r m.2 f.0 in
             around_brings kind_of_result ρ (s.run ρ call κ body) (give Next)
-            (s.loop ρ (s.evaluated ρ call κ test) (s.run ρ call κ body) (give Next)) each (give_brings Left Next tt)
-            (loop_brings kind_of_result ρ (s.evaluated ρ call κ test) (s.run ρ call κ body) (give Next)
+            (s.loop ρ (parts.evaluated ρ call κ test) (s.run ρ call κ body) (give Next)) each (give_brings Left Next tt)
+            (loop_brings kind_of_result ρ (parts.evaluated ρ call κ test) (s.run ρ call κ body) (give Next)
             (evaluated_brings locals n.Plain κ test m.1 f.1) each (give_brings Left Next tt))
         kind_brings c locals κ at (For head body) q r m f =
             let η = s.with_objects head.objects κ in
@@ -354,7 +356,7 @@ module _ (program : Checked) (thread budget : ℕ) where
             (void_fits ρ.structs result e.no_value
             (subst (λ (u : CType). is_void u ≡ true) r (holds (is_void c.result) rule)))
         kind_brings c locals κ at (Return (Some x)) q r m f =
-            first_brings (FitsCell kind_of_result) Left (e.converted_to ρ κ.result x (s.evaluated ρ call κ x)) _
+            first_brings (FitsCell kind_of_result) Left (e.converted_to ρ κ.result x (parts.evaluated ρ call κ x)) _
             (returned_brings locals κ (n.Into c.result) x q m.1 f) (λ v g. give_brings Left (Gave v) g)
         kind_brings c locals κ at (Synchronise how v) q r m f =
             first_brings Any Left (s.marked ρ call κ v) _ (marked_brings locals κ how c v m f) (λ mark g.
@@ -374,7 +376,8 @@ module _ (program : Checked) (thread budget : ℕ) where
             → Brings Flow Left (s.run_arms ρ call κ arms last)
         arms_bring c locals κ NoArms last q r m f pl = pl
         arms_bring c locals κ (AndArm test body more) last q r m f pl =
-            first_brings Any Left (s.evaluated ρ call κ test) _ (evaluated_brings locals n.Plain κ test m.0 f.0) (λ v g.
+            first_brings Any Left (parts.evaluated ρ call κ test) _ (evaluated_brings locals n.Plain κ test m.0 f.0)
+            (λ v g.
             choose_brings Left (is_zero v) (s.run_arms ρ call κ more last) (s.run ρ call κ body)
             (arms_bring c locals κ more last q r m.2 f.2 pl) (run_brings c locals κ body q r m.1 f.1))
 
@@ -435,10 +438,10 @@ module _ (program : Checked) (thread budget : ℕ) where
 
       opened_brings : (args : List Value) (at : Place) (strict : Bool) (items : Items)
           → MeetsItems program (around f.result) f.parameters items → AreFormedItems Makes items
-          → Brings Flow Ends (h.opened ρ call f args at strict items)
+          → Brings Flow Ends (parts.opened ρ call f args at strict items)
       opened_brings args at strict items m g =
-          first_brings Any Ends (b.open_block 0 (h.shapes_in ρ f items) at) _
-          (open_brings 0 (h.shapes_in ρ f items) at) (λ u v.
+          first_brings Any Ends (b.open_block 0 (parts.shapes_in ρ f items) at) _
+          (open_brings 0 (parts.shapes_in ρ f items) at) (λ u v.
           first_brings Any Ends (h.received ρ at 0 f.parameters args) _ (received_brings at 0 f.parameters args) (λ w x.
           first_brings Ends Ends (s.run_items ρ call (h.in_body ρ f strict) items) _
           (items_bring f.result is.result (around f.result) f.parameters (h.in_body ρ f strict) items refl refl m g)

@@ -12,7 +12,8 @@ use Rattle.thread_steps.specs.Blocks.{with_live}
 use Rattle.private_store.specs.declared.frame.Call.{Call}
 use Rattle.private_store.specs.Live.{Live}
 use Rattle.thread_steps.specs.States.{valued}
-use Rattle.thread_steps.specs.Actions.{ask, answered, answered_from}
+use Rattle.thread_steps.specs.Actions.{ask, answered}
+use Rattle.thread_steps.specs.layer.Parts.{answered_from}
 use Rattle.meaning_laws.specs.layer.Values.{IsFilled, Comes, Brings}
 
 -- The value of a result passes, if it has one.

@@ -31,7 +31,7 @@ use Rattle.typing_rules.specs.Rules.{points, counts, gives_void, is_zero, is_lva
 use Rattle.typing_rules.specs.Rules.{takes_rows, target_is_array, target_is_empty, leads_nowhere, same_pointers}
 use Rattle.typing_rules.specs.Rules.{chooses}
 use Rattle.typing_rules.specs.Rules.{casts, is_scalar, names_member}
-use Rattle.source_meaning.specs.Expressions as e
+use Rattle.source_meaning.specs.layer.Parts as parts
 use Rattle.meaning_laws.proofs.Rules.{unbroken, holds, fails, or_left, or_right}
 use Rattle.meaning_laws.proofs.Taken.{stuck}
 use Rattle.meaning_laws_accepted.proofs.Types.{IsDeep, IsSoundType, IsNamed, sound_deep, deep_sound, deep_array}
@@ -47,7 +47,7 @@ use Rattle.meaning_laws_accepted.proofs.Structs.{IsFoundFormed}
 pub record Sound (how : Use) (a : Attr) : Type 0 where
   pub sound : IsSoundType a.ctype
   pub rows : takes_rows how ≡ false → is_nested a.ctype ≡ false
-  pub struct : is_struct a.ctype ≡ true → e.is_lvalue a.form ≡ true
+  pub struct : is_struct a.ctype ≡ true → parts.is_lvalue a.form ≡ true
 
 -- What is converted is converted into a type that is formed.
 abbrev pub UseFormed : Use → Type 0

@@ -49,7 +49,8 @@ use Rattle.shared_pointers.specs.Casts.{local_of}
 use Rattle.source_meaning.specs.Types.{parameter_conversion}
 use Rattle.source_meaning.specs.Running.{Running, running}
 use Rattle.source_meaning.specs.Expressions as e
-use Rattle.source_meaning.specs.Expressions.{type_of, arguments, allocated_shape, is_printf}
+use Rattle.source_meaning.specs.layer.Parts.{is_printf}
+use Rattle.source_meaning.specs.Expressions.{type_of, arguments, allocated_shape}
 use Rattle.source_meaning.specs.Threads.{called}
 use Rattle.source_meaning.specs.Laws.{AreSoMany, Gives, FormsCalls}
 use Rattle.source_meaning.proofs.Forming.{all_form_calls}

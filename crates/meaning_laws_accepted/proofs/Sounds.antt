@@ -16,7 +16,7 @@ use Rattle.typed_tree.specs.Tree.{Switch, While, DoWhile, For, Forall, Break, Co
 use Rattle.typed_tree.specs.Tree.{StatementOption, NoStatement, TheStatement, Arms, NoArms, AndArm, Items, NoItems}
 use Rattle.typed_tree.specs.Tree.{AndObjects, AndStatement, SwitchItems, NoSwitchItems, AndCase, AndDefault}
 use Rattle.typed_tree.specs.Tree.{AndSwitchStatement, Function}
-use Rattle.source_meaning.specs.Expressions.{is_lvalue}
+use Rattle.source_meaning.specs.layer.Parts.{is_lvalue}
 use Rattle.source_meaning.specs.Statements.{element_type}
 use Rattle.meaning_laws.specs.layer.Values.{IsFormedType}
 use Rattle.meaning_laws.specs.layer.Formed.{LiesBy, MakesBy, IsFormed, HasFormedParts, AreFormed}

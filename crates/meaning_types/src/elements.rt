@@ -6,6 +6,7 @@ ghost use Rattle.upc_types.specs.View.{view, view_base};
 ghost use Rattle.upc_types.specs.ViewStructs.{view_structs};
 ghost use Rattle.typing_rules.specs.Constants.{block_or_none};
 ghost use Rattle.source_meaning.specs.Types as pure;
+ghost use Rattle.source_meaning.specs.layer.Parts as parts;
 
 use block_layout::limits;
 use thread_steps::Elements;
@@ -14,7 +15,7 @@ use upc_types::{Base, CType, Structs};
 
 // The bytes of an object; a type without layout is as one byte.
 fn bytes_of(structs: &Structs, base: &Base) -> u32
-    ensures { result ≡ pure.bytes_of (view_structs structs.now) (view_base base.now) }
+    ensures { result ≡ parts.bytes_of (view_structs structs.now) (view_base base.now) }
 {
     match structs.layout_of(base) {
         Some(layout) => layout.size,

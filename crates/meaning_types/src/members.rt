@@ -6,6 +6,7 @@ ghost use Rattle.upc_types.specs.View.{view};
 ghost use Rattle.upc_types.specs.ViewStructs.{view_structs};
 ghost use Rattle.typing_rules.specs.layer.Views.{view_target};
 ghost use Rattle.source_meaning.specs.Types as pure;
+ghost use Rattle.source_meaning.specs.layer.Parts as parts;
 
 use upc_types::{Base, CType, Structs};
 
@@ -34,7 +35,7 @@ pub fn member_offset(structs: &Structs, t: &CType, index: u32) -> u32
 
 /// The bytes before a member of the struct that a pointer leads to.
 pub fn target_offset(structs: &Structs, target: Option<&CType>, index: u32) -> u32
-    ensures { result ≡ pure.target_offset (view_structs structs.now) (view_target target.entry) index }
+    ensures { result ≡ parts.target_offset (view_structs structs.now) index (view_target target.entry) }
 {
     match target {
         Some(t) => member_offset(structs, t, index),

@@ -28,7 +28,7 @@ pub fn inner_place(e: &Expr) -> Place
 
 // How many elements an array has.
 fn count_in(base: &Base) -> Option<u32>
-    ensures { result ≡ mean.count_in (view_base base.now) }
+    ensures { result ≡ parts.count_in (view_base base.now) }
 {
     match base {
         Base::Array(_, count) => Some(*count),
@@ -59,7 +59,7 @@ pub fn known_or_zero(constant: Constant) -> i128
 
 /// Whether a call is a printf.
 pub fn is_printf(call: LibraryCall) -> bool
-    ensures { result ≡ mean.is_printf call }
+    ensures { result ≡ parts.is_printf call }
 {
     matches!(call, LibraryCall::Printf)
 }

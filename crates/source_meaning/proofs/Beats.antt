@@ -1,16 +1,14 @@
 -- A Beat is wanted at a multiple of 1,024 ticks.
-use Rattle.std.proofs.Common.{◌≡◌, ℕ, ◌+◌, ◌*◌, ℤ, List, refl, ap, sym, subst, ◌∙◌}
-use Rattle.upc_values.specs.declared.action.Action.{Action}
+use Rattle.std.proofs.Common.{◌≡◌, ◌+◌, ◌*◌, ℤ, refl, subst}
 use Rattle.upc_values.specs.declared.action.Action.TheVariants.{Beat}
-use Rattle.upc_values.specs.declared.record.ToldEnd.{ToldEnd}
 use Rattle.upc_values.specs.declared.record.ToldEnd.TheVariants.{Wants, Ended, OutOfTicks}
 use Rattle.upc_values.specs.Records.{beats}
 use Rattle.typed_tree.specs.Programs.{Checked, start_of}
-use Rattle.thread_steps.specs.States.{Thread, State, Res, Val, Over, Unfinished}
+use Rattle.thread_steps.specs.States.{Res, Val, Over, Unfinished}
 use Rattle.thread_steps.proofs.Beating as b
 use Rattle.source_meaning.specs.Running.{running}
 use Rattle.source_meaning.specs.Threads.{course, initial_state, thread_outcome, outcome_of}
-use Rattle.source_meaning.specs.Laws.{BeatsInTime, AllBeatInTime}
+use Rattle.source_meaning.specs.Laws.{AllBeatInTime}
 use Rattle.source_meaning.proofs.Kept.{course_kept}
 use Rattle.source_meaning.proofs.Finished.{begun_depth}
 use Rattle.source_meaning.proofs.Replies.{none_wanted}

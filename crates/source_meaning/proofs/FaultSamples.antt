@@ -10,7 +10,7 @@ use Rattle.upc_values.specs.declared.scalar.Mark.TheVariants.{Given}
 use Rattle.upc_values.specs.declared.action.Action.{Action}
 use Rattle.upc_values.specs.declared.action.Action.TheVariants as act
 use Rattle.upc_values.specs.declared.action.Reply.{Reply}
-use Rattle.upc_values.specs.declared.action.Reply.TheVariants.{Done, Value, Refused}
+use Rattle.upc_values.specs.declared.action.Reply.TheVariants.{Value, Refused}
 use Rattle.upc_values.specs.declared.library.LibraryCall.{LibraryCall}
 use Rattle.upc_values.specs.declared.library.LibraryCall.TheVariants as call
 use Rattle.upc_values.specs.declared.record.ToldEnd.TheVariants as told
@@ -19,7 +19,7 @@ use Rattle.upc_types.specs.declared.ctype.Access.TheVariants.{Unsaid}
 use Rattle.upc_types.specs.Types.{CType, Qualified, Integer, Pointer}
 use Rattle.typing_rules.specs.Library.{void, size_type, lock_pointer}
 use Rattle.typed_tree.specs.declared.tree.Synchronises.TheVariants.{Wait, Barrier}
-use Rattle.typed_tree.specs.Tree.{Expr, Statement, Stands, Synchronise}
+use Rattle.typed_tree.specs.Tree.{Statement, Stands, Synchronise}
 use Rattle.typed_tree.specs.Programs.{Checked}
 use Rattle.thread_steps.specs.States.{Over}
 use Rattle.thread_steps.specs.Actions.{ask, notify, wait, meet}

@@ -31,7 +31,7 @@ use Rattle.thread_steps.specs.declared.cast.CastTo.TheVariants as to
 use Rattle.thread_steps.specs.States.{Res, Val, Over, Unfinished, bind, Doing, ◌>>=◌}
 use Rattle.thread_steps.specs.Values.{number, number_of}
 use Rattle.thread_steps.specs.Operators.{cast}
-use Rattle.thread_steps.specs.Library.{is_call, has_shape, is_formed}
+use Rattle.thread_steps.specs.Library.{has_shape, is_formed, is_call}
 use Rattle.thread_steps.proofs.Conversions.{converted_in}
 use Rattle.source_meaning.specs.Types.{parameter_conversion}
 use Rattle.source_meaning.specs.Running.{Running, running}

@@ -18,16 +18,17 @@ use Rattle.thread_steps.proofs.Barriers.{DoneOnce, notify_once, wait_once}
 use Rattle.thread_steps.proofs.Kept as k
 use Rattle.thread_steps.proofs.Following as f
 use Rattle.source_meaning.specs.Running.{Running, running}
-use Rattle.source_meaning.specs.Threads.{course, course_from, main_on, main_called, main_of, main_place}
+use Rattle.source_meaning.specs.Threads.{course, main_called, main_of, main_place}
+use Rattle.source_meaning.specs.layer.Parts.{course_from, main_on}
 use Rattle.source_meaning.specs.Threads.{initial_state, thread_outcome, outcome_of}
-use Rattle.source_meaning.specs.Laws.{beginning, finish, IsFinished, IsFramed, AllAreFramed}
+use Rattle.source_meaning.specs.Laws.{beginning, IsFinished, IsFramed, AllAreFramed}
 use Rattle.source_meaning.proofs.Kept.{course_kept, main_on_kept}
 use Rattle.source_meaning.proofs.Finished.{begun_depth, is_total}
 
 -- ---- the end
 
 abbrev Finishes : Res ℤ → Type 0
-Finishes (Val v υ) = (before : List Action) × (υ.actions ≡ before ++ finish)
+Finishes (Val v υ) = (before : List Action) × (υ.actions ≡ before ++ act.Notify Finish ∷ act.Wait Finish ∷ [])
 Finishes (Over e υ) = Unit {0}
 Finishes Unfinished = Unit {0}
 

@@ -1,6 +1,5 @@
 -- A thread notifies and waits in turn.
-use Rattle.std.proofs.Common.{◌≡◌, ℕ, ◌<◌, ℤ, List, [], ◌∷◌, ◌++◌, refl, subst, arith}
-use Rattle.upc_values.specs.declared.action.Action.{Action}
+use Rattle.std.proofs.Common.{ℤ, [], ◌∷◌, ◌++◌, refl, subst}
 use Rattle.upc_values.specs.declared.record.ToldEnd.{ToldEnd}
 use Rattle.upc_values.specs.declared.record.ToldEnd.TheVariants.{Wants, Misfit, Ended, Exit, Fault, OutOfTicks}
 use Rattle.typed_tree.specs.Programs.{Checked, start_of}

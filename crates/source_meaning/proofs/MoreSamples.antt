@@ -16,7 +16,7 @@ use Rattle.upc_values.specs.declared.library.LibraryCall.TheVariants.{Reduce, Th
 use Rattle.upc_values.specs.declared.library.ElementKind.TheVariants as element_kind
 use Rattle.upc_values.specs.declared.record.ToldEnd.TheVariants as told
 use Rattle.upc_types.specs.declared.ctype.Access.TheVariants.{Unsaid}
-use Rattle.upc_types.specs.Types.{CType, Qualified, Integer, Struct, Pointer, Structs}
+use Rattle.upc_types.specs.Types.{CType, Qualified, Struct, Pointer, Structs}
 use Rattle.typing_rules.specs.declared.setting.SizeOperator.{SizeOperator}
 use Rattle.typing_rules.specs.declared.setting.SizeOperator.TheVariants as size
 use Rattle.typing_rules.specs.Attributes.{Facts, attr}

@@ -12,12 +12,11 @@ use Rattle.upc_values.specs.declared.scalar.Value.{Value}
 use Rattle.upc_values.specs.declared.scalar.Value.TheVariants.{Local}
 use Rattle.upc_values.specs.declared.library.LibraryCall.{LibraryCall}
 use Rattle.upc_values.specs.declared.library.LibraryCall.TheVariants.{Printf}
-use Rattle.upc_types.specs.Types.{CType, Base, Array, base_of}
+use Rattle.upc_types.specs.Types.{CType, Array, base_of}
 use Rattle.upc_types.specs.Cells.{leaves}
 use Rattle.upc_types.specs.Arithmetic.{promoted}
 use Rattle.typing_rules.specs.declared.setting.Home.{Home}
 use Rattle.typing_rules.specs.declared.setting.Home.TheVariants as home
-use Rattle.typing_rules.specs.declared.attribute.Form.{Form}
 use Rattle.typing_rules.specs.declared.attribute.Form.TheVariants.{Lvalue}
 use Rattle.typing_rules.specs.Library.{int, call_parameters, is_allocation}
 use Rattle.typing_rules.specs.Constants.{working_kind, right_kind}
@@ -41,7 +40,6 @@ use Rattle.thread_steps.specs.Operators.{operate, apply, cast}
 use Rattle.thread_steps.specs.Blocks.{local_object}
 use Rattle.source_meaning.specs.Types.{target_of, integer_of, is_strict, conversion, conversions}
 use Rattle.source_meaning.specs.Types.{parameter_conversion, promotion, cell_kind, elements_of, member_offset}
-use Rattle.source_meaning.specs.Types.{target_offset}
 use Rattle.source_meaning.specs.Running.{Running, shared_object, parameters_of}
 
 -- What a call of a function does, by its number, with its arguments, at a place.
@@ -61,66 +59,26 @@ type_of e = (attr_of e).ctype
 abbrev pub types_of : Exprs → List CType
 types_of es = map (λ a. a.ctype) (attrs_of es)
 
--- The places of expressions inside their parentheses (C99 6.5.1).
-abbrev mutual
-  -- Where an expression begins inside its parentheses, which is the place of a read of what it names.
-  pub inner_place : Expr → Place
-  inner_place (Is at attr kind) = inner_place_in at kind
+-- Where an expression begins inside its parentheses, which is the place of a read of what it names (C99 6.5.1).
+abbrev pub inner_place : Expr → Place
+inner_place (Is at attr (Paren a)) = inner_place a
+inner_place (Is at attr kind) = at
 
-  -- Where an expression of this kind, whose own place is given, begins inside its parentheses.
-  pub inner_place_in : Place → ExprKind → Place
-  inner_place_in at (Paren a) = inner_place a
-  inner_place_in at kind = at
+-- How many elements the array has that a subscript of an array of arrays names: a further subscript has to lie in this
+-- dimension. No other expression has one (C99 6.2.5, 6.5.2.1).
+abbrev pub dimension : Expr → Option ℕ
+dimension (Is at attr (Paren a)) = dimension a
+dimension (Is at attr (Subscript a i)) = elim (base_of attr.ctype) [ Array element count ↦ Some count | _ ↦ None ]
+dimension e = None
 
--- How many elements an array type has; no other type has elements (C99 6.2.5).
-abbrev pub count_in : Base → Option ℕ
-count_in (Array element count) = Some count
-count_in b = None
-
--- The dimensions of arrays of arrays (C99 6.5.2.1).
-abbrev mutual
-  -- How many elements the array has that a subscript of an array of arrays names: a further subscript has to lie in
-  -- this dimension (C99 6.5.2.1).
-  pub dimension : Expr → Option ℕ
-  dimension (Is at attr kind) = dimension_in attr kind
-
-  -- The dimension in which a further subscript has to lie, after an expression of this kind and attribute; none where
-  -- it is no subscript (C99 6.5.2.1).
-  pub dimension_in : Attr → ExprKind → Option ℕ
-  dimension_in attr (Paren a) = dimension a
-  dimension_in attr (Subscript a i) = count_in (base_of attr.ctype)
-  dimension_in attr kind = None
-
--- The formats of printf (C99 7.19.6.1).
-abbrev mutual
-  -- The bytes of the format that an expression is, as the first argument of a printf; any other expression has none
-  -- (C99 7.19.6.3).
-  pub format_of : Expr → List ℕ
-  format_of (Is at attr kind) = format_in kind
-
-  -- The bytes of the format that an expression of this kind is, inside its parentheses.
-  pub format_in : ExprKind → List ℕ
-  format_in (Format bytes) = bytes
-  format_in (Paren a) = format_of a
-  format_in kind = []
-
--- The call is printf (C99 7.19.6.3).
-abbrev pub is_printf : LibraryCall → Bool
-is_printf Printf = true
-is_printf call = false
-
--- The expression has the form of an lvalue: it names an object (C99 6.3.2.1).
-abbrev pub is_lvalue : Form → Bool
-is_lvalue (Lvalue address) = true
-is_lvalue form = false
+-- The bytes of the format that an expression is, as the first argument of a printf, inside its parentheses; any other
+-- expression has none (C99 7.19.6.1, 7.19.6.3).
+abbrev pub format_of : Expr → List ℕ
+format_of (Is at attr (Format bytes)) = bytes
+format_of (Is at attr (Paren a)) = format_of a
+format_of e = []
 
 -- ---- steps that several constructs take
-
--- A further subscript i of an array of arrays lies in its dimension, or is a run error; any other subscript is not
--- tested (C99 6.5.2.1, 6.5.6).
-abbrev pub within_row : Place → Option ℕ → Value → ℤ → Doing (Unit {0})
-within_row at None p i = skip
-within_row at (Some count) p i = in_row count at p i
 
 -- The value of a unary operator: of `!` by whether its operand is zero, of any other on an integer after promotion
 -- (C99 6.5.3.3).
@@ -128,12 +86,6 @@ abbrev pub unary : Place → UnOp → Option Kind → Value → Doing Value
 unary at un.Not kind v = give (truth_value (is_zero v))
 unary at o (Some kind) v = apply o (promoted kind) at v
 unary at o None v = give no_value
-
--- The value of a binary operator on two integers, after the usual arithmetic conversions (C99 6.3.1.8, 6.5.5 to
--- 6.5.12).
-abbrev pub integers : Place → BinOp → (left right : Option Kind) → Value → Value → Doing Value
-integers at o (Some j) (Some k) x y = operate o (working_kind o j k) (right_kind o j k) at x y
-integers at o j k x y = give no_value
 
 module _ (ρ : Running) where
   -- The place i objects of a type after another (C99 6.5.6, UPC 6.4.2).
@@ -150,55 +102,34 @@ module _ (ρ : Running) where
     give (truth_value (is_zero v))
   on_pointers at o t x y = order ρ.thread o (elements_of ρ.structs t) at x y
 
-  -- The value of a binary operator on a pointer to a type and an integer: the sum or the difference, or an equality
-  -- with the constant 0 (C99 6.5.6, 6.5.9).
-  abbrev pub on_pointer : Place → BinOp → CType → Value → Value → Doing Value
-  on_pointer at op.Add t x y = behind at t x (number_of y)
-  on_pointer at op.Subtract t x y = behind at t x (neg_ℤ (number_of y))
-  on_pointer at o t x y = on_pointers at o t x y
-
-  -- The value of a binary operator on an integer and a pointer to a type: the sum, or an equality with the constant 0
-  -- (C99 6.5.6, 6.5.9).
-  abbrev pub before_pointer : Place → BinOp → CType → Value → Value → Doing Value
-  before_pointer at op.Add t x y = behind at t y (number_of x)
-  before_pointer at o t x y = on_pointers at o t x y
-
   -- The value of a binary operator on two values, by the target of each that is a pointer and the kind of each that is
-  -- an integer (C99 6.5.5 to 6.5.12).
+  -- an integer: of a pointer and an integer the sum, the difference, or an equality with the constant 0; of two
+  -- integers after the usual arithmetic conversions (C99 6.3.1.8, 6.5.5 to 6.5.12).
   abbrev pub operated : Place → BinOp → (left right : Option CType) → (j k : Option Kind) → Value → Value → Doing Value
   operated at o (Some t) (Some u) j k x y = on_pointers at o t x y
-  operated at o (Some t) None j k x y = on_pointer at o t x y
-  operated at o None (Some u) j k x y = before_pointer at o u x y
-  operated at o None None j k x y = integers at o j k x y
+  operated at o (Some t) None j k x y =
+      let n = number_of y in
+      elim o [ op.Add ↦ behind at t x n | op.Subtract ↦ behind at t x (neg_ℤ n) | other ↦ on_pointers at other t x y ]
+  operated at o None (Some u) j k x y =
+      elim o [ op.Add ↦ behind at u y (number_of x) | other ↦ on_pointers at other u x y ]
+  operated at o None None (Some j) (Some k) x y = operate o (working_kind o j k) (right_kind o j k) at x y
+  operated at o None None j k x y = give no_value
 
   -- The value of a binary operator on values of two types (C99 6.5.5 to 6.5.12).
   abbrev pub binary : Place → BinOp → (left right : CType) → Value → Value → Doing Value
   binary at o a b x y = operated at o (target_of a) (target_of b) (integer_of a) (integer_of b) x y
 
-  -- The value of the cell of this kind at a place; what has no cell of its own, an array or a struct, has the place as
+  -- The value of the object of a type at a place; what has no cell of its own, an array or a struct, has the place as
   -- its value (C99 6.3.2.1).
-  abbrev pub loaded : Bool → Place → CType → Option Kind → Value → Doing Value
-  loaded strict at t (Some kind) p = load ρ.thread kind (is_strict strict t) at p
-  loaded strict at t None p = give p
-
-  -- The value of the object of a type at a place; of an array or a struct it is the place (C99 6.3.2.1).
   abbrev pub held : Bool → Place → CType → Value → Doing Value
-  held strict at t p = loaded strict at t (cell_kind ρ.structs t) p
+  held strict at t p =
+      elim (cell_kind ρ.structs t) [ Some k ↦ load ρ.thread k (is_strict strict t) at p | None ↦ give p ]
 
-  -- The cell of this kind at a place gets a new value; to what has no cell of its own, an array or a struct, nothing is
+  -- The object of a type at a place gets a new value; to what has no cell of its own, an array or a struct, nothing is
   -- written (C99 6.5.16).
-  abbrev pub saved : Bool → Place → CType → Option Kind → Value → Value → Doing (Unit {0})
-  saved strict at t (Some kind) p v = save ρ.thread kind (is_strict strict t) at p v
-  saved strict at t None p v = skip
-
-  -- The object of a type at a place gets a new value (C99 6.5.16).
   abbrev pub put : Bool → Place → CType → Value → Value → Doing (Unit {0})
-  put strict at t p v = saved strict at t (cell_kind ρ.structs t) p v
-
-  -- The value of an expression by what it gives: of an lvalue the value of the object at that place, of any other what
-  -- it gives (C99 6.3.2.1).
-  abbrev pub value_in : Bool → Place → Attr → Value → Doing Value
-  value_in strict at attr v = choose (is_lvalue attr.form) (held strict at attr.ctype v) (give v)
+  put strict at t p v =
+      elim (cell_kind ρ.structs t) [ Some k ↦ save ρ.thread k (is_strict strict t) at p v | None ↦ skip ]
 
   -- Where a named object lies (C99 6.2.4, UPC 6.5.1).
   abbrev pub object : Home → Doing Value
@@ -211,13 +142,6 @@ module _ (ρ : Running) where
   step_operator step.DecrementFirst = op.Subtract
   step_operator step.DecrementAfter = op.Subtract
   step_operator o = op.Add
-
-  -- Which of the old and the new value `++` and `--` give: before their operand the new one, after it the old one
-  -- (C99 6.5.2.4, 6.5.3.1).
-  abbrev pub step_value : StepOperator → (old new : Value) → Value
-  step_value step.IncrementFirst old new = new
-  step_value step.DecrementFirst old new = new
-  step_value o old new = old
 
   -- The value of an expression, converted into a type (C99 6.5.16.1).
   abbrev pub converted_to : CType → Expr → Doing Value → Doing Value
@@ -245,11 +169,13 @@ module _ (ρ : Running) where
   module _ (call : Calls) (strict : Bool) where
     -- What expressions do and give, each by its parts (C99 6.5, UPC 6.4).
     abbrev mutual
-      -- The value of an expression (C99 6.5).
+      -- The value of an expression by what it gives: of an lvalue the value of the object at that place, of any other
+      -- what it gives (C99 6.3.2.1, 6.5).
       pub value : Expr → Doing Value
       value (Is at attr kind) = do
         v ← given at attr kind
-        value_in strict (inner_place_in at kind) attr v
+        choose (elim attr.form [ Lvalue constant ↦ true | _ ↦ false ])
+            (held strict (inner_place (Is at attr kind)) attr.ctype v) (give v)
 
       -- Where the object lies that an expression names (C99 6.3.2.1).
       pub address : Expr → Doing Value
@@ -267,19 +193,19 @@ module _ (ρ : Running) where
       given at attr (Callee target) = give no_value
       given at attr (Format bytes) = give no_value
       given at attr (Paren a) = address a
-      -- subscripts (C99 6.5.2.1)
+      -- subscripts: a further one of an array of arrays lies in its dimension, or is a run error (C99 6.5.2.1, 6.5.6)
       given at attr (Subscript a i) = do
         p ← value a
         n ← value i
         q ← behind at attr.ctype p (number_of n)
-        within_row at (dimension a) p (number_of n)
+        elim (dimension a) [ Some count ↦ in_row count at p (number_of n) | None ↦ skip ]
         give q
       -- calls (C99 6.5.2.2)
       given at attr (Call (target.Function n) args) = do
         vs ← arguments (conversions (types_of args) (parameters_of ρ n)) args []
         call n vs at
       given at attr (Call (target.Library c) args) =
-          choose (is_printf c) (printed args) (do
+          choose (elim c [ Printf ↦ true | _ ↦ false ]) (printed args) (do
             vs ← arguments (map parameter_conversion (call_parameters c)) args []
             library ρ.thread c (allocated_shape c attr.ctype) at vs)
       -- members (C99 6.5.2.3, UPC 6.4.4)
@@ -288,15 +214,15 @@ module _ (ρ : Running) where
         member ρ.thread (member_offset ρ.structs (type_of a) index) at p
       given at attr (MemberBehind a index) = do
         p ← value a
-        member ρ.thread (target_offset ρ.structs (target_of (type_of a)) index) at p
-      -- ++ and -- (C99 6.5.2.4, 6.5.3.1)
+        member ρ.thread (elim (target_of (type_of a)) [ Some t ↦ member_offset ρ.structs t index | None ↦ 0 ]) at p
+      -- ++ and --: before their operand they give its new value, after it the old one (C99 6.5.2.4, 6.5.3.1)
       given at attr (Step o a) = do
         p ← address a
         v ← held strict at (type_of a) p
         w ← binary at (step_operator o) (type_of a) int v (number (pos 1))
         u ← cast ρ.thread (conversion (type_of a) (type_of a)) at w
         put strict at (type_of a) p u
-        give (step_value o v u)
+        give (elim o [ step.IncrementFirst ↦ u | step.DecrementFirst ↦ u | _ ↦ v ])
       -- & and * (C99 6.5.3.2)
       given at attr (Address a) = address a
       given at attr (Dereference a) = value a

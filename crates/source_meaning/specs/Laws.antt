@@ -19,7 +19,7 @@ use Rattle.typed_tree.specs.Tree.{Exprs, NoExprs, AndExpr}
 use Rattle.typing_rules.specs.Library.{call_parameters}
 use Rattle.upc_values.specs.declared.library.LibraryCall.{LibraryCall}
 use Rattle.upc_values.specs.declared.scalar.Value.{Value}
-use Rattle.thread_steps.specs.States.{Thread, State, Res, Val, Over, Unfinished, Doing}
+use Rattle.thread_steps.specs.States.{Thread, State, Res, Val, Unfinished, Doing}
 use Rattle.thread_steps.specs.layer.Fronts.{Begins, IsInTurn}
 use Rattle.thread_steps.specs.Library.{has_shape, is_formed}
 use Rattle.source_meaning.specs.Types.{parameter_conversion}
@@ -89,15 +89,12 @@ pub record AllTakeReplies (program : Checked) : Type 0 where
 abbrev pub beginning : List Action
 beginning = Notify Start ∷ Wait Start ∷ []
 
--- The barrier after main (UPC 6.6.1).
-abbrev pub finish : List Action
-finish = Notify Finish ∷ Wait Finish ∷ []
-
 -- A thread begins with the barrier before main, or it ended in it; and where main has given its value it ends with
--- the barrier after main.
+-- the barrier after main (UPC 6.6.1).
 pub record IsFramed (outcome : Outcome) : Type 0 where
   pub begins : Begins outcome.actions beginning ⊎ Begins beginning outcome.actions
-  pub ends : (v : ℤ) → outcome.«end» ≡ Ended v → (before : List Action) × (outcome.actions ≡ before ++ finish)
+  pub ends : (v : ℤ) → outcome.«end» ≡ Ended v
+      → (before : List Action) × (outcome.actions ≡ before ++ Notify Finish ∷ Wait Finish ∷ [])
 
 -- Each thread of a program, with a budget of at least one tick, stands between the barrier before main and the one
 -- after it (UPC 6.6.1).

@@ -7,17 +7,15 @@ use Rattle.std.specs.Cmp.Lexicographic.{pointwise}
 use Rattle.upc_text.specs.declared.place.Place.{Place}
 use Rattle.block_layout.specs.declared.kind.Kind.{Kind}
 use Rattle.block_layout.specs.declared.kind.Kind.TheVariants as kind
-use Rattle.block_layout.specs.declared.kind.Shape.{Shape}
 use Rattle.integers.specs.Integers.{converted}
 use Rattle.upc_values.specs.declared.scalar.Value.{Value}
 use Rattle.upc_values.specs.declared.scalar.Mark.TheVariants.{Start, Finish}
 use Rattle.upc_values.specs.declared.action.Reply.{Reply}
-use Rattle.upc_values.specs.declared.record.ToldEnd.{ToldEnd}
 use Rattle.upc_values.specs.declared.record.ToldEnd.TheVariants.{Ended, OutOfTicks}
 use Rattle.upc_values.specs.Shapes.{blank_value}
 use Rattle.upc_values.specs.Outcomes.{Outcome}
 use Rattle.upc_types.specs.Types.{CType}
-use Rattle.typed_tree.specs.Tree.{Statement, Stands, Block, Items, Function}
+use Rattle.typed_tree.specs.Tree.{Statement, Stands, Block, Function}
 use Rattle.typed_tree.specs.Programs.{Checked, start_of}
 use Rattle.private_store.specs.declared.store.TheConstants.{MOST_CALLS}
 use Rattle.private_store.specs.Beginnings.{begun}
@@ -28,7 +26,7 @@ use Rattle.thread_steps.specs.Blocks.{open_block, close_block, local_object, beg
 use Rattle.source_meaning.specs.Types.{cell_kind, shape_of}
 use Rattle.source_meaning.specs.Running.{Running, running}
 use Rattle.source_meaning.specs.Expressions.{Calls, no_value, put}
-use Rattle.source_meaning.specs.Statements.{Flow, Gave, Does, Standing, objects_in, shapes_of, run}
+use Rattle.source_meaning.specs.Statements.{Flow, Gave, Standing, objects_in, shapes_of, run}
 use Rattle.source_meaning.specs.Statements.{run_items}
 
 -- What a function gives that ends without `return`: 0 or null (C99 6.9.1).
@@ -53,22 +51,15 @@ module _ (ρ : Running) where
     received at (i + 1) ts vs
   received at i ts vs = skip
 
-  -- The cells of a function's parameters, and of the objects that its body itself declares.
-  abbrev pub shapes_in : Function → Items → List Shape
-  shapes_in f items = map (shape_of ρ.structs) f.parameters ++ shapes_of ρ (objects_in items)
-
-  -- A function's block, to which its parameters belong (C99 6.2.1, 6.9.1).
-  abbrev pub opened : Calls → Function → List Value → Place → Bool → Items → Does
-  opened call f args at strict items = do
-    open_block 0 (shapes_in f items) at
+  -- What the body of a function, which is a block, does with these arguments; the function's parameters belong to its
+  -- block (C99 6.2.1, 6.9.1).
+  abbrev pub body : Calls → Function → List Value → Statement → Doing Flow
+  body call f args (Stands at (Block strict items)) = do
+    open_block 0 (map (shape_of ρ.structs) f.parameters ++ shapes_of ρ (objects_in items)) at
     received at 0 f.parameters args
     flow ← run_items ρ call (in_body f strict) items
     close_block
     give flow
-
-  -- What the body of a function, which is a block, does with these arguments (C99 6.9.1).
-  abbrev pub body : Calls → Function → List Value → Statement → Does
-  body call f args (Stands at (Block strict items)) = opened call f args at strict items
   body call f args s = run ρ call (in_body f false) s
 
   -- A function from its first statement to its end, with these arguments: it gives the value of its `return`, else 0 or
@@ -107,34 +98,23 @@ module _ (ρ : Running) where
     end_call
     give v
 
-  -- What main does, and the barrier after it (UPC 6.6.1); its value is what main gives, as an int (C99 5.1.2.2.3).
-  abbrev pub main_on : Option Function → Doing ℤ
-  main_on main = do
+  -- The whole course of a thread that runs the program: the barrier before main, main, and the barrier after it
+  -- (UPC 6.6.1); its value is what main gives, as an int (C99 5.1.2.2.1, 5.1.2.2.3).
+  abbrev pub course : Doing ℤ
+  course = do
+    let main = main_of ρ.functions
+    notify ρ.thread (main_place main) Start
+    wait ρ.thread (main_place main) Start
     v ← main_called main
     notify ρ.thread (main_place main) Finish
     wait ρ.thread (main_place main) Finish
     give (converted kind.Int (number_of v))
 
-  -- The whole course of a thread, by its main: the barrier before main, main, and the barrier after it (UPC 6.6.1).
-  abbrev pub course_from : Option Function → Doing ℤ
-  course_from main = do
-    notify ρ.thread (main_place main) Start
-    wait ρ.thread (main_place main) Start
-    main_on main
-
-  -- The whole course of a thread that runs the program (C99 5.1.2.2.1, UPC 6.6.1).
-  abbrev pub course : Doing ℤ
-  course = course_from (main_of ρ.functions)
-
--- The outcome of a thread that ends so in this state.
-abbrev pub told : ToldEnd → State → Outcome
-told e σ = record { actions = σ.actions; ticks = σ.ticks; «end» = e }
-
--- The outcome of a thread by the result of its course: Ended with main's value, or the end that it has reached before
--- (C99 5.1.2.2.3).
+-- The outcome of a thread by the result of its course, with what it did and the ticks that it counted: Ended with
+-- main's value, or the end that it has reached before (C99 5.1.2.2.3).
 abbrev pub outcome_of : Res ℤ → Outcome
-outcome_of (Val v σ) = told (Ended v) σ
-outcome_of (Over e σ) = told e σ
+outcome_of (Val v σ) = record { actions = σ.actions; ticks = σ.ticks; «end» = Ended v }
+outcome_of (Over e σ) = record { actions = σ.actions; ticks = σ.ticks; «end» = e }
 outcome_of Unfinished = record { actions = []; ticks = 0; «end» = OutOfTicks }
 
 -- What a thread begins with: the private objects of the file with their initial values (C99 6.7.8), and the replies

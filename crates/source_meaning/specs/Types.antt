@@ -4,10 +4,9 @@ use Rattle.std.specs.Prelude.{Option, Some, None, is_some}
 use Rattle.block_layout.specs.declared.kind.Kind.{Kind}
 use Rattle.block_layout.specs.declared.kind.Kind.TheVariants as kind
 use Rattle.block_layout.specs.declared.kind.Shape.{Shape}
-use Rattle.upc_types.specs.declared.ctype.Access.{Access}
 use Rattle.upc_types.specs.declared.ctype.Access.TheVariants.{Unsaid, Strict, Relaxed}
 use Rattle.upc_types.specs.declared.layout.Layout.{Layout}
-use Rattle.upc_types.specs.Types.{CType, Base, Integer, Pointer, base_of, block_of, access_of, Member, Structs}
+use Rattle.upc_types.specs.Types.{CType, Base, Integer, Struct, Pointer, base_of, block_of, access_of, Member, Structs}
 use Rattle.upc_types.specs.Types.{members_of}
 use Rattle.upc_types.specs.Same.{same_block, is_lock_object}
 use Rattle.upc_types.specs.Layout.{base_within, base_layout, layout_in, aligned}
@@ -15,8 +14,8 @@ use Rattle.upc_types.specs.Cells.{leaf_base, object_shape}
 use Rattle.upc_types.specs.Arithmetic.{promoted}
 use Rattle.typing_rules.specs.declared.library.LibraryParameter.{LibraryParameter}
 use Rattle.typing_rules.specs.declared.library.LibraryParameter.TheVariants.{SharedPointer, PrivatePointer}
-use Rattle.typing_rules.specs.declared.library.LibraryParameter.TheVariants.{LockPointer, Size, Int, NoFunction}
-use Rattle.typing_rules.specs.Values.{base_kind, base_target, base_struct}
+use Rattle.typing_rules.specs.declared.library.LibraryParameter.TheVariants.{LockPointer, Size}
+use Rattle.typing_rules.specs.Values.{base_kind, base_target}
 use Rattle.typing_rules.specs.Constants.{block_or_none}
 use Rattle.typing_rules.specs.Attributes.{target_block}
 use Rattle.typed_tree.specs.Initials.{scalar_kind}
@@ -68,8 +67,7 @@ parameter_conversion SharedPointer = to.Shared
 parameter_conversion PrivatePointer = to.Local
 parameter_conversion LockPointer = to.Lock
 parameter_conversion Size = to.Integer kind.ULong
-parameter_conversion Int = to.Integer kind.Int
-parameter_conversion NoFunction = to.Integer kind.Int
+parameter_conversion _ = to.Integer kind.Int
 
 -- The integer promotion of a value of this type; a value of no integer type is discarded (C99 6.3.1.1, 6.5.2.2).
 abbrev pub promotion : CType → CastTo
@@ -83,10 +81,6 @@ conversions as_ ps = []
 -- ---- layout, where the structs have these members and the targets of pointers these numbers. A type without layout
 -- counts as one byte without cells; in a typed program no object has such a type.
 module _ (structs : Structs) where
-  -- The size in bytes of an object; a type without layout counts as one byte (C99 6.5.3.4).
-  abbrev pub bytes_of : Base → ℕ
-  bytes_of b = elim (base_within structs.completed b) [ Some l ↦ l.size | None ↦ 1 ]
-
   -- The kind of the cell of a scalar type; an array or a struct has none of its own (C99 6.2.5).
   abbrev pub cell_kind : CType → Option Kind
   cell_kind t = scalar_kind structs.targets (base_of t)
@@ -101,12 +95,12 @@ module _ (structs : Structs) where
   abbrev pub shape_of : CType → Shape
   shape_of t = shape_or_byte (base_within structs.completed (base_of t)) (base_of t)
 
-  -- The block and the size of the elements that a pointer to this type counts, which are leaf elements (UPC 6.4.2,
-  -- 6.5.1.1); a block of more than 16,777,216, which no typed program has, counts as that.
+  -- The block and the size in bytes of the elements that a pointer to this type counts, which are leaf elements
+  -- (C99 6.5.3.4; UPC 6.4.2, 6.5.1.1); a block of more than 16,777,216, which no typed program has, counts as that.
   abbrev pub elements_of : CType → Elements
   elements_of target = record {
     block = min (block_or_none (block_of target)) 16777216;
-    size = bytes_of (leaf_base (base_of target));
+    size = elim (base_within structs.completed (leaf_base (base_of target))) [ Some l ↦ l.size | None ↦ 1 ];
   }
 
   -- The bytes before the member with this number, where `end` bytes of the struct stand before the first of these
@@ -120,9 +114,4 @@ module _ (structs : Structs) where
 
   -- The bytes before member n of a struct of this type, 0 where there is no struct (C99 6.7.2.1).
   abbrev pub member_offset : CType → ℕ → ℕ
-  member_offset t n = elim (base_struct (base_of t)) [ Some s ↦ offset_from 0 n (members_of structs s) | None ↦ 0 ]
-
-  -- The bytes before member n of the struct to which a pointer leads, 0 where it leads to none (C99 6.5.2.3, 6.7.2.1).
-  abbrev pub target_offset : Option CType → ℕ → ℕ
-  target_offset (Some t) n = member_offset t n
-  target_offset None n = 0
+  member_offset t n = elim (base_of t) [ Struct s ↦ offset_from 0 n (members_of structs s) | _ ↦ 0 ]

@@ -34,7 +34,7 @@ use Rattle.upc_values.specs.Expansion.{Expansion, Gives, Fails}
 use Rattle.upc_values.specs.Copying.{copy, set}
 use Rattle.upc_values.specs.Expansions.{is_large, collective}
 use Rattle.upc_values.specs.LibraryCalls as l
-use Rattle.thread_steps.specs.Library.{is_call, is_formed}
+use Rattle.thread_steps.specs.Library.{is_formed, is_call}
 use Rattle.stack_code_laws.specs.code.Names.{is_lock_given}
 use Rattle.stack_code_laws.proofs.Given.{IsGround, is_known, may_call, IsWellFormed}
 use Rattle.stack_code_laws.proofs.KnownValues.{Known}

@@ -16,9 +16,9 @@ use Rattle.upc_values.specs.Openings.{Opening}
 use Rattle.upc_values.specs.Formed.{fits}
 use Rattle.private_store.specs.Live.{Live}
 use Rattle.thread_steps.specs.States.{Thread, State, Res, Val, Over, Unfinished, bind, Doing, ◌>>=◌}
-use Rattle.thread_steps.specs.layer.Parts.{with_store}
+use Rattle.thread_steps.specs.layer.Parts.{with_store, answered_from}
 use Rattle.thread_steps.specs.States.{give, skip, know, change, choose, over, fault, fault_if, valued}
-use Rattle.thread_steps.specs.Actions.{ask, answered, answered_from}
+use Rattle.thread_steps.specs.Actions.{ask, answered}
 use Rattle.thread_steps.specs.layer.Fronts.{Begins}
 use Rattle.thread_steps.proofs.Fronts.{begins_itself, begins_pushed, begins_on}
 use Rattle.thread_steps.proofs.Following.{total, plus, Later}

@@ -10,9 +10,9 @@ use Rattle.upc_values.specs.declared.record.ToldEnd.TheVariants.{OutOfTicks}
 use Rattle.upc_values.specs.Formed.{fits}
 use Rattle.upc_values.specs.Outcomes.{Outcome}
 use Rattle.thread_steps.specs.States.{Thread, State, Res, Val, Over, Unfinished, bind, Doing, ◌>>◌, skip}
-use Rattle.thread_steps.specs.layer.Parts.{with_tick}
+use Rattle.thread_steps.specs.layer.Parts.{with_tick, answered_from}
 use Rattle.thread_steps.specs.States.{choose, over}
-use Rattle.thread_steps.specs.Actions.{ask, answered, answered_from, tick}
+use Rattle.thread_steps.specs.Actions.{ask, answered, tick}
 use Rattle.thread_steps.proofs.Depths.{depth}
 use Rattle.thread_steps.proofs.Lasting.{IsSpent, Enough, Lasts, lasting}
 use Rattle.stack_code.specs.declared.instruction.Instr.{Instr}

@@ -144,11 +144,11 @@ module _ (op : Opening) (past : List Reply) (v : IsGround op) (R : Kind → Loc 
   notify_asks P at mark =
       on (Unit {0}) P Nothing (fault_if a.is_controlled BARRIER_IN_FORALL at) _
       (fault_if_asks op past R P a.is_controlled BARRIER_IN_FORALL at (λ σ r rs. refl)) (λ Q f.
-      on (Unit {0}) Q Nothing (fault_if a.is_notified PHASE_ORDER at) _
-      (fault_if_asks op past R Q a.is_notified PHASE_ORDER at (λ σ r rs. refl)) (λ N g.
+      on (Unit {0}) Q Nothing (fault_if parts.is_notified PHASE_ORDER at) _
+      (fault_if_asks op past R Q parts.is_notified PHASE_ORDER at (λ σ r rs. refl)) (λ N g.
       on (Unit {0}) N Nothing (a.does τ at (act.Notify mark)) _
       (does_asks N at (act.Notify mark) tt) (λ S h.
-      change_asks op past R S (a.with_notified true) (λ σ h. h) (λ σ. refl) (λ σ. refl) (λ σ r rs. refl))))
+      change_asks op past R S (parts.with_notified true) (λ σ h. h) (λ σ. refl) (λ σ. refl) (λ σ r rs. refl))))
 
   pub wait_asks : (P : Type 0) (at : Place) (mark : Mark) → Asks op past R (Unit {0}) P Nothing (a.wait τ at mark)
   unfolding a.wait
@@ -159,14 +159,14 @@ module _ (op : Opening) (past : List Reply) (v : IsGround op) (R : Kind → Loc 
       (fault_if_asks op past R Q parts.is_not_notified PHASE_ORDER at (λ σ r rs. refl)) (λ N g.
       on (Unit {0}) N Nothing (a.does τ at (act.Wait mark)) _
       (does_asks N at (act.Wait mark) tt) (λ S h.
-      change_asks op past R S (a.with_notified false) (λ σ h. h) (λ σ. refl) (λ σ. refl) (λ σ r rs. refl))))
+      change_asks op past R S (parts.with_notified false) (λ σ h. h) (λ σ. refl) (λ σ. refl) (λ σ r rs. refl))))
 
   meet_asks : (P : Type 0) (at : Place) → Asks op past R (Unit {0}) P Nothing (a.meet τ at)
   unfolding a.meet
   meet_asks P at =
       on (Unit {0}) P Nothing (fault_if a.is_controlled BARRIER_IN_FORALL at) _
       (fault_if_asks op past R P a.is_controlled BARRIER_IN_FORALL at (λ σ r rs. refl)) (λ Q f.
-      fault_if_asks op past R Q a.is_notified PHASE_ORDER at (λ σ r rs. refl))
+      fault_if_asks op past R Q parts.is_notified PHASE_ORDER at (λ σ r rs. refl))
 
   pub fence_asks : (P : Type 0) → Asks op past R (Unit {0}) P Nothing (a.fence τ)
   unfolding a.fence
@@ -210,7 +210,7 @@ module _ (op : Opening) (past : List Reply) (v : IsGround op) (R : Kind → Loc 
 
     write_asks : (strict : Bool) (at : Loc) (w : Scalar) → (P → IsCellThere op past at k)
         → (P → fits_kind w k ≡ true) → (P → IsKnownScalar w)
-        → Asks op past R (Unit {0}) P Nothing (x.write τ strict at w)
+        → Asks op past R (Unit {0}) P Nothing (parts.write τ strict at w)
     write_asks strict at w h f g =
         then_asks op past R Reply (Unit {0}) P (IsAnswer None (act.Write strict at w)) Nothing
         (a.ask τ None (act.Write strict at w)) (λ r. skip)
@@ -362,8 +362,8 @@ module _ (op : Opening) (past : List Reply) (v : IsGround op) (R : Kind → Loc 
     pub in_row_asks : (count : ℕ) (w : Value) (i : ℤ) → Asks op past R (Unit {0}) P Nothing (p.in_row count at w i)
     in_row_asks count w i =
         choose_asks op past R (Unit {0}) P Nothing (int_le (pos 0) i && int_lt i (pos count)) skip
-        (fault (p.outside w) at)
-        (skip_asks op past R P) (fault_asks op past R (Unit {0}) P Nothing (p.outside w) at)
+        (fault (parts.outside w) at)
+        (skip_asks op past R P) (fault_asks op past R (Unit {0}) P Nothing (parts.outside w) at)
 
     pub operate_asks : (operator : BinOp) (left right : Kind) (w y : Value)
         → Asks op past R Value P IsKnown (o.operate operator left right at w y)
@@ -495,8 +495,8 @@ module _ (op : Opening) (past : List Reply) (v : IsGround op) (R : Kind → Loc 
         on Value P IsKnown (choose (is_some (meet_number call)) (a.meet τ at) skip) _
         (choose_asks op past R (Unit {0}) P Nothing (is_some (meet_number call)) (a.meet τ at) skip (meet_asks P at)
         (skip_asks op past R P)) (λ Q f.
-        then_asks op past R (ℕ → Option Shape) Value Q (λ y. Unit {0}) IsKnown (know l.private_shapes) _
-        (know_asks op past R (ℕ → Option Shape) Q (λ y. Unit {0}) l.private_shapes (λ q σ g. tt) (λ σ r rs. refl))
+        then_asks op past R (ℕ → Option Shape) Value Q (λ y. Unit {0}) IsKnown (know parts.private_shapes) _
+        (know_asks op past R (ℕ → Option Shape) Q (λ y. Unit {0}) parts.private_shapes (λ q σ g. tt) (λ σ r rs. refl))
         (λ private.
         then_asks op past R Scalar Value (Q × Unit {0}) IsKnownScalar IsKnown
         (x.run τ at (library_call op.threads op.shapes me private call shape args)) _
@@ -515,8 +515,8 @@ module _ (op : Opening) (past : List Reply) (v : IsGround op) (R : Kind → Loc 
         → Asks op past R Value P IsKnown (l.library τ call shape at args)
     unfolding l.library
     library_asks P h =
-        choose_asks op past R Value P IsKnown (l.is_exit call) (a.exit τ (l.first_number args))
-        (l.formed_call τ call shape at args) (leave_asks Value P IsKnown (l.first_number args))
+        choose_asks op past R Value P IsKnown (parts.is_exit call) (a.exit τ (parts.first_number args))
+        (l.formed_call τ call shape at args) (leave_asks Value P IsKnown (parts.first_number args))
         (formed_asks P h (l.is_formed op.shapes call shape args) refl)
 
   pub print_asks : (P : Type 0) (format : List ℕ) (args : List Value)

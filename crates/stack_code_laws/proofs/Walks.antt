@@ -11,11 +11,11 @@ use Rattle.upc_values.specs.declared.record.ToldEnd.TheVariants as told
 use Rattle.block_layout.specs.declared.run_error.TheConstants.{DEPTH}
 use Rattle.private_store.specs.Live.{Live, called, returned}
 use Rattle.thread_steps.specs.States.{Thread, State, Res, Val, Over, Unfinished, Doing, ◌>>=◌, choose}
-use Rattle.thread_steps.specs.layer.Parts.{is_deep}
+use Rattle.thread_steps.specs.layer.Parts.{is_deep, outside}
 use Rattle.thread_steps.specs.States.{skip, fault, change}
 use Rattle.thread_steps.specs.Values.{number, number_of, is_zero}
 use Rattle.thread_steps.specs.Accesses.{load, save}
-use Rattle.thread_steps.specs.Pointers.{advance, in_row, outside, member, difference, order, same}
+use Rattle.thread_steps.specs.Pointers.{advance, in_row, member, difference, order, same}
 use Rattle.thread_steps.specs.Operators.{operate, apply, cast}
 use Rattle.thread_steps.specs.Library.{library, print}
 use Rattle.thread_steps.specs.Actions.{tick, notify, wait, fence, is_controlled}

@@ -14,10 +14,11 @@ use Rattle.upc_values.specs.Expansion.{Expansion}
 use Rattle.upc_values.specs.Formed.{fits}
 use Rattle.upc_values.specs.LibraryCalls.{library_call, meet_number, asks, given_by}
 use Rattle.thread_steps.specs.States.{Thread, State, Res, Val, bind, give, choose, skip, valued}
-use Rattle.thread_steps.specs.Actions.{meet, exit, ask, answered, answered_from}
+use Rattle.thread_steps.specs.Actions.{meet, exit, ask, answered}
 use Rattle.thread_steps.specs.Accesses.{run, expanded}
 use Rattle.thread_steps.specs.Values.{number}
-use Rattle.thread_steps.specs.Library.{library, called, formed_call, is_formed, first_number, private_shapes}
+use Rattle.thread_steps.specs.Library.{library, called, formed_call, is_formed}
+use Rattle.thread_steps.specs.layer.Parts.{first_number, private_shapes, answered_from}
 use Rattle.upc_values.specs.Calls.{call_of}
 use Rattle.thread_values.specs.layer.Collectives.{collective_number, scalars_met}
 use Rattle.thread_values.proofs.CollectiveCalls.{collective_no_exit, collective_formed, collective_meets}

@@ -7,7 +7,8 @@ use Rattle.upc_values.specs.declared.record.ToldEnd.TheVariants.{Fault}
 use Rattle.upc_values.specs.declared.library.LibraryCall.{LibraryCall}
 use Rattle.upc_values.specs.LibraryCalls.{library_call}
 use Rattle.thread_steps.specs.States.{Thread, State, Val, Over}
-use Rattle.thread_steps.specs.Library.{library, private_shapes}
+use Rattle.thread_steps.specs.Library.{library}
+use Rattle.thread_steps.specs.layer.Parts.{private_shapes}
 use Rattle.thread_values.specs.layer.Results.{asks_nothing, given_at_once}
 use Rattle.thread_values.proofs.AtOnce.{gives_at_once}
 

@@ -11,7 +11,8 @@ use Rattle.thread_steps.specs.States.{Thread, State, Res, Val, bind, give, choos
 use Rattle.thread_steps.specs.Actions.{meet, exit, is_controlled}
 use Rattle.thread_steps.specs.Accesses.{run}
 use Rattle.thread_steps.specs.Values.{number}
-use Rattle.thread_steps.specs.Library.{library, called, formed_call, is_formed, is_exit, first_number, private_shapes}
+use Rattle.thread_steps.specs.Library.{library, called, formed_call, is_formed}
+use Rattle.thread_steps.specs.layer.Parts.{first_number, private_shapes, is_exit}
 use Rattle.stack_code.specs.declared.instruction.Instr.{Instr}
 use Rattle.stack_code.specs.layer.Codes.{Codes, thread_of}
 use Rattle.stack_code.specs.layer.Steps.{At, conf_of, act, further, youngest, steps}

@@ -12,9 +12,9 @@ use Rattle.upc_values.specs.declared.record.ToldEnd.TheVariants.{Wants, Misfit, 
 use Rattle.upc_values.specs.Formed.{fits}
 use Rattle.private_store.specs.Live.{Live, called, returned}
 use Rattle.thread_steps.specs.States.{Thread, State, Res, Val, Over, Unfinished, bind, Doing, ◌>>=◌, ◌>>◌}
-use Rattle.thread_steps.specs.layer.Parts.{is_deep, with_tick, with_store}
+use Rattle.thread_steps.specs.layer.Parts.{is_deep, with_tick, with_store, with_notified, answered_from}
 use Rattle.thread_steps.specs.States.{give, skip, know, change, choose, over, fault}
-use Rattle.thread_steps.specs.Actions.{ask, answered, answered_from, tick, with_notified}
+use Rattle.thread_steps.specs.Actions.{ask, answered, tick}
 use Rattle.thread_steps.specs.Blocks.{begin_call, end_call, with_live}
 use Rattle.thread_steps.proofs.Depths.{depth, SameDepth, called_depth, returned_depth, not_deep}
 use Rattle.thread_steps.proofs.Kept.{Property, IsBasic, IsAsking, IsKept, Ignores, IsOwn}

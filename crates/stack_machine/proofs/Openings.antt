@@ -33,7 +33,8 @@ use Rattle.stack_machine.specs.code.Tasks.{task_seen}
 use Rattle.stack_machine.specs.code.Walking.{IsHalted, IsOver, HasHalted, HasCome, IfGoing}
 use Rattle.stack_machine.specs.layer.Machine.{listed}
 use Rattle.thread_values.proofs.MemoryCalls.{copies_formed, copies_alone}
-use Rattle.thread_steps.specs.Library.{is_exit, is_formed}
+use Rattle.thread_steps.specs.Library.{is_formed}
+use Rattle.thread_steps.specs.layer.Parts.{is_exit}
 use Rattle.private_store.specs.Live.{controls}
 use Rattle.thread_values.specs.layer.Collectives.{collective_number}
 use Rattle.upc_values.specs.declared.library.LibraryCall.TheVariants as call

@@ -6,6 +6,7 @@ ghost use Rattle.upc_values.specs.declared.scalar.Scalar.TheVariants as scalar;
 ghost use Rattle.private_store.specs.Cells as cells;
 ghost use Rattle.private_store.specs.Cells.{IsPrivate};
 ghost use Rattle.thread_steps.specs.Accesses as pure;
+ghost use Rattle.thread_steps.specs.layer.Parts as parts;
 ghost use Rattle.thread_steps.specs.layer.Ranges.{IsHeld, IsHeldScalar};
 ghost use Rattle.thread_steps.specs.States.{Thread, Val};
 ghost use Rattle.thread_steps.specs.Values as values;
@@ -57,7 +58,7 @@ impl Progress {
         requires { IsHeldScalar code.now.threads code.now.shapes p }
         ensures does { (thread budget : ℕ) (before : List Action)
             → Came before
-            (pure.load_at (thread_of code.now thread budget) access.kind access.strict place (Value.Scalar p)
+            (pure.load (thread_of code.now thread budget) access.kind access.strict place (Value.Scalar p)
             (state_seen before self.old))
             result self.old self.new }
         ensures value { IfOk result (IsHeld code.now.threads code.now.shapes) }
@@ -80,7 +81,7 @@ impl Progress {
         requires store { HoldsHeld code.now.threads code.now.shapes self.old.store }
         ensures does { (thread budget : ℕ) (before : List Action)
             → Came before
-            (pure.load_at (thread_of code.now thread budget) access.kind access.strict place (Value.Local p)
+            (pure.load (thread_of code.now thread budget) access.kind access.strict place (Value.Local p)
             (state_seen before self.old))
             result self.old self.new }
         ensures value { IfOk result (IsHeld code.now.threads code.now.shapes) }
@@ -205,7 +206,7 @@ impl Progress {
         requires { IsHeldScalar code.now.threads code.now.shapes p }
         ensures does { (thread budget : ℕ) (before : List Action)
             → Came before
-            (pure.save_at (thread_of code.now thread budget) access.kind access.strict place (Value.Scalar p) v
+            (pure.save (thread_of code.now thread budget) access.kind access.strict place (Value.Scalar p) v
             (state_seen before self.old))
             result self.old self.new }
         ensures kept { OnOk result (self.new ≡ record self.old { reply = self.new.reply }) }
@@ -229,7 +230,7 @@ impl Progress {
         requires store { HoldsHeld code.now.threads code.now.shapes self.old.store }
         ensures does { (thread budget : ℕ) (before : List Action)
             → Came before
-            (pure.save_at (thread_of code.now thread budget) access.kind access.strict place (Value.Local p) v
+            (pure.save (thread_of code.now thread budget) access.kind access.strict place (Value.Local p) v
             (state_seen before self.old))
             result self.old self.new }
         ensures held { OnOk result (HoldsHeld code.now.threads code.now.shapes self.new.store) }
@@ -262,7 +263,7 @@ impl Progress {
     #[tactic(auto, unfolding(thread_steps::specs::Actions::ask))]
     fn write(&mut self, strict: bool, loc: Loc, value: Scalar) -> Result<(), Halt>
         ensures does { (τ : Thread) (before : List Action)
-            → Came before (pure.write τ strict loc value (state_seen before self.old)) result
+            → Came before (parts.write τ strict loc value (state_seen before self.old)) result
             self.old self.new }
         ensures kept { OnOk result (self.new ≡ record self.old { reply = self.new.reply }) }
     {

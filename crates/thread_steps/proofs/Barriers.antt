@@ -9,10 +9,10 @@ use Rattle.upc_values.specs.declared.action.Reply.{Reply}
 use Rattle.upc_values.specs.declared.action.Reply.TheVariants as reply
 use Rattle.upc_values.specs.Formed.{fits}
 use Rattle.thread_steps.specs.States.{Thread, State, Res, Val, Over, Unfinished, bind, Doing}
-use Rattle.thread_steps.specs.layer.Parts.{unless_refused, is_not_notified}
+use Rattle.thread_steps.specs.layer.Parts.{unless_refused, is_not_notified, is_notified, with_notified, answered_from}
 use Rattle.thread_steps.specs.States.{skip, change, choose, fault}
-use Rattle.thread_steps.specs.Actions.{ask, answered, answered_from, does, notify, wait}
-use Rattle.thread_steps.specs.Actions.{is_controlled, is_notified, with_notified}
+use Rattle.thread_steps.specs.Actions.{ask, answered, does, notify, wait}
+use Rattle.thread_steps.specs.Actions.{is_controlled}
 
 -- The action was done, or the thread ended before it or by it.
 abbrev pub DoneOnce : Action → State → Res (Unit {0}) → Type 0

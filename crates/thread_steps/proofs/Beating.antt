@@ -123,7 +123,7 @@ module _ (τ : Thread) where
         record { beaten = h.beaten ∙ sym (beats_other σ.actions y other); deep = h.deep }
     answered_beating false r rest σ h = tt
 
-    from_beating : (rs : List Reply) (σ : State) → Beaten d σ → Ends d (a.answered_from τ kind y rs σ)
+    from_beating : (rs : List Reply) (σ : State) → Beaten d σ → Ends d (parts.answered_from τ kind y rs σ)
     from_beating [] σ h = not_due y σ other
     from_beating (r ∷ rest) σ h = answered_beating (fits τ.threads τ.shapes kind y r) r rest σ h
 
@@ -176,7 +176,7 @@ module _ (τ : Thread) where
 
       by_replies : (rs : List Reply)
           → Ends d
-          (bind (bind (a.answered_from τ None act.Beat rs (parts.with_tick σ)) (λ _. skip))
+          (bind (bind (parts.answered_from τ None act.Beat rs (parts.with_tick σ)) (λ _. skip))
           (λ _. choose (σ.ticks + 1 == τ.budget) (over OutOfTicks) skip))
       by_replies [] = due σ.ticks (beats σ.actions) e h.beaten
       by_replies (r ∷ rest) = by_fit (fits τ.threads τ.shapes None act.Beat r) r rest
@@ -187,7 +187,7 @@ module _ (τ : Thread) where
 
   -- ---- barriers
 
-  noted_beating : (n d : ℕ) (v : Bool) → Beating n d (Unit {0}) (change (a.with_notified v))
+  noted_beating : (n d : ℕ) (v : Bool) → Beating n d (Unit {0}) (change (parts.with_notified v))
   noted_beating n d v = record { by = λ σ h. record { beaten = h.beaten; deep = h.deep } }
 
   unless_beating : (n d : ℕ) (test : State → Bool) (code : ℕ) (at : Place) → Ignores test
@@ -199,8 +199,8 @@ module _ (τ : Thread) where
   notify_beating n d at mark =
       then_beating n d (Unit {0}) (Unit {0}) (fault_if a.is_controlled BARRIER_IN_FORALL at) _
       (unless_beating n d a.is_controlled BARRIER_IN_FORALL at (λ σ as_ rs. refl)) (λ u.
-      then_beating n d (Unit {0}) (Unit {0}) (fault_if a.is_notified PHASE_ORDER at) _
-      (unless_beating n d a.is_notified PHASE_ORDER at (λ σ as_ rs. refl)) (λ v.
+      then_beating n d (Unit {0}) (Unit {0}) (fault_if parts.is_notified PHASE_ORDER at) _
+      (unless_beating n d parts.is_notified PHASE_ORDER at (λ σ as_ rs. refl)) (λ v.
       then_beating n d (Unit {0}) (Unit {0}) (a.does τ at (act.Notify mark)) _
       (does_beating n d at (act.Notify mark) refl) (λ w.
       noted_beating n d true)))
@@ -221,7 +221,7 @@ module _ (τ : Thread) where
   meet_beating n d at =
       then_beating n d (Unit {0}) (Unit {0}) (fault_if a.is_controlled BARRIER_IN_FORALL at) _
       (unless_beating n d a.is_controlled BARRIER_IN_FORALL at (λ σ as_ rs. refl)) (λ u.
-      unless_beating n d a.is_notified PHASE_ORDER at (λ σ as_ rs. refl))
+      unless_beating n d parts.is_notified PHASE_ORDER at (λ σ as_ rs. refl))
 
   -- ---- calls of the library
 
@@ -257,7 +257,7 @@ module _ (τ : Thread) where
       then_beating n d (Unit {0}) Value (choose (is_some (meet_number call)) (a.meet τ at) skip) _
       (basic_choose_kept Beating basic_beating n d (is_some (meet_number call)) (a.meet τ at) skip
       (meet_beating n d at) (give_beating n d (Unit {0}) tt)) (λ u.
-      then_beating n d (ℕ → Option Shape) Value (know l.private_shapes) _ (record { by = λ σ h. h }) (λ private.
+      then_beating n d (ℕ → Option Shape) Value (know parts.private_shapes) _ (record { by = λ σ h. h }) (λ private.
       then_beating n d Scalar Value
       (x.run τ at (library_call τ.threads τ.shapes τ.number private call shape args)) _
       (run_beating n d at _

@@ -117,7 +117,7 @@ module _ (P : Property) (H : IsBasic P) (n d : ℕ) where
 pub record IsAsking (τ : Thread) (P : Property) : Type 1 where
   pub basic : IsBasic P
   pub of_ask : (n d : ℕ) (kind : Option Kind) (action : Action) → P n d Reply (a.ask τ kind action)
-  pub of_notified : (n d : ℕ) (v : Bool) → P n d (Unit {0}) (λ σ. Res.Val tt (a.with_notified v σ))
+  pub of_notified : (n d : ℕ) (v : Bool) → P n d (Unit {0}) (λ σ. Res.Val tt (parts.with_notified v σ))
 
 module _ (τ : Thread) (P : Property) (K : IsAsking τ P) (n d : ℕ) where
   asked_first : {A B : Type 0} (m : Doing A) (f : A → Doing B) → P n d A m → ((v : A) → P n d B (f v))
@@ -153,7 +153,7 @@ module _ (τ : Thread) (P : Property) (K : IsAsking τ P) (n d : ℕ) where
   asked_notify_kept at mark =
       asked_first (fault_if a.is_controlled BARRIER_IN_FORALL at) _
       (asked_fault_if_kept a.is_controlled BARRIER_IN_FORALL at (λ σ as_ rs. refl)) (λ u.
-      asked_first (fault_if a.is_notified PHASE_ORDER at) _ (asked_fault_if_kept a.is_notified PHASE_ORDER at
+      asked_first (fault_if parts.is_notified PHASE_ORDER at) _ (asked_fault_if_kept parts.is_notified PHASE_ORDER at
       (λ σ as_ rs. refl)) (λ v.
       asked_first (a.does τ at (act.Notify mark)) _ (asked_does_kept at (act.Notify mark)) (λ w.
       K.of_notified n d true)))
@@ -173,7 +173,7 @@ module _ (τ : Thread) (P : Property) (K : IsAsking τ P) (n d : ℕ) where
   asked_meet_kept at =
       asked_first (fault_if a.is_controlled BARRIER_IN_FORALL at) _
       (asked_fault_if_kept a.is_controlled BARRIER_IN_FORALL at (λ σ as_ rs. refl)) (λ u.
-      asked_fault_if_kept a.is_notified PHASE_ORDER at (λ σ as_ rs. refl))
+      asked_fault_if_kept parts.is_notified PHASE_ORDER at (λ σ as_ rs. refl))
 
   asked_expanded_kept : {A : Type 0} (at : Place) (e : Expansion A) → P n d A (x.expanded τ at e)
   asked_expanded_kept {A = A} at (Gives v) = K.basic.of_give n d A v
@@ -205,7 +205,7 @@ module _ (τ : Thread) (P : Property) (K : IsAsking τ P) (n d : ℕ) where
       → P n d Value (l.called τ call shape at args)
   asked_called_kept call shape at args =
       asked_first (choose (is_some (meet_number call)) (a.meet τ at) skip) _ (asked_meeting_kept at call) (λ u.
-      asked_first (know l.private_shapes) _ (K.basic.of_know n d (ℕ → Option Shape) l.private_shapes
+      asked_first (know parts.private_shapes) _ (K.basic.of_know n d (ℕ → Option Shape) parts.private_shapes
       (λ σ as_ rs. refl)) (λ private.
       asked_first (x.run τ at (library_call τ.threads τ.shapes τ.number private call shape args)) _
       (asked_run_kept at (library_call τ.threads τ.shapes τ.number private call shape args))
@@ -401,12 +401,12 @@ module _ (τ : Thread) (P : Property) (K : IsKept τ P) (n d : ℕ) where
       (K.of_called n d call shape at args) (K.basic.of_give n d Value (number (pos 0)))
 
   by_exit : (test : Bool) (call : LibraryCall) (shape : ℕ) (at : Place) (args : List Value)
-      → P n d Value (choose test (a.exit τ (l.first_number args)) (l.formed_call τ call shape at args))
+      → P n d Value (choose test (a.exit τ (parts.first_number args)) (l.formed_call τ call shape at args))
   by_exit test call shape at args =
-      choose_kept test (a.exit τ (l.first_number args)) (l.formed_call τ call shape at args)
-      (exit_kept (l.first_number args)) (formed_kept call shape at args)
+      choose_kept test (a.exit τ (parts.first_number args)) (l.formed_call τ call shape at args)
+      (exit_kept (parts.first_number args)) (formed_kept call shape at args)
 
   pub library_kept : (call : LibraryCall) (shape : ℕ) (at : Place) (args : List Value)
       → P n d Value (l.library τ call shape at args)
   unfolding l.library
-  library_kept call shape at args = by_exit (l.is_exit call) call shape at args
+  library_kept call shape at args = by_exit (parts.is_exit call) call shape at args

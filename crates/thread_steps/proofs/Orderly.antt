@@ -9,7 +9,7 @@ use Rattle.block_layout.specs.declared.kind.Shape.{Shape}
 use Rattle.block_layout.specs.Pointers.{is_null, location, null}
 use Rattle.upc_values.specs.declared.scalar.Scalar.{Scalar}
 use Rattle.upc_values.specs.layer.Parts.{unless_refused}
-use Rattle.upc_values.specs.layer.Parts as parts
+use Rattle.upc_values.specs.layer.Parts as named
 use Rattle.upc_values.specs.declared.scalar.Scalar.TheVariants as scalar
 use Rattle.upc_values.specs.declared.scalar.Value.{Value}
 use Rattle.upc_values.specs.declared.scalar.Value.TheVariants as value
@@ -190,19 +190,19 @@ module _ (threads : ℕ) (shapes : List Shape) (me : ℕ) where
   part_orderly : (n : ℕ) (part : Part) → Orderly false (Unit {0}) (x.copied threads shapes me n part)
   part_orderly n part = each_orderly _ (x.cells threads shapes me n part.into) (cell_orderly part)
 
-  move_orderly : (n : ℕ) (moves : List Part) → Orderly false (Unit {0}) (x.move threads shapes me n moves)
-  move_orderly n moves =
+  move_orderly : (n : ℕ) (parts : List Part) → Orderly false (Unit {0}) (x.move threads shapes me n parts)
+  move_orderly n parts =
       refused_by_orderly
-      ((list_any (λ part. leaves_range n part.into || leaves_range n part.from) moves, POINTER_RANGE)
+      ((list_any (λ part. leaves_range n part.into || leaves_range n part.from) parts, POINTER_RANGE)
       ∷ (
-        list_any (λ part. parts.outside threads shapes me n part.into || parts.outside threads shapes me n part.from)
-            moves,
+        list_any (λ part. named.outside threads shapes me n part.into || named.outside threads shapes me n part.from)
+            parts,
         OUT_OF_OBJECT,
       )
-      ∷ (list_any (x.differ threads shapes me n) moves, CELL_TYPE)
+      ∷ (list_any (x.differ threads shapes me n) parts, CELL_TYPE)
       ∷ [])
-      (each_in_turn (x.copied threads shapes me n) moves)
-      (each_orderly (x.copied threads shapes me n) moves (part_orderly n))
+      (each_in_turn (x.copied threads shapes me n) parts)
+      (each_orderly (x.copied threads shapes me n) parts (part_orderly n))
 
   some_orderly : (n : ℕ) (e : Expansion (Unit {0})) → Orderly false (Unit {0}) e
       → Orderly false (Unit {0}) (x.some_bytes threads shapes me n e)
@@ -213,7 +213,7 @@ module _ (threads : ℕ) (shapes : List Shape) (me : ℕ) where
   cells_orderly k ps e h =
       refused_by_orderly
       ((list_any (leaves_range (kind_size k)) ps, POINTER_RANGE)
-      ∷ (list_any (parts.outside threads shapes me (kind_size k)) ps, OUT_OF_OBJECT)
+      ∷ (list_any (named.outside threads shapes me (kind_size k)) ps, OUT_OF_OBJECT)
       ∷ (list_any (λ p. not (is_cell shapes k p)) ps, CELL_TYPE)
       ∷ [])
       e h
@@ -228,21 +228,25 @@ module _ (threads : ℕ) (shapes : List Shape) (me : ℕ) where
       → Orderly false (Unit {0}) (x.permute threads shapes me dst src perm n)
   permute_orderly dst src perm n =
       let read = x.number_at threads shapes me kind.Int in
-      let ps = parts.permutation threads shapes me perm in
+      let ps = named.permutation threads shapes me perm in
       let own = byte_at dst n threads (me * n) in
       let some = not (n == 0) in
       let go : List ℤ → Expansion (Unit {0}) = λ vs. x.some_bytes threads shapes me n
       (x.move threads shapes me n (x.chosen threads shapes me dst src n vs ∷ [])) in
       let chosen : List ℤ → Expansion (Unit {0}) = λ vs. refused_by
-      ((not (each_thread threads (λ t. parts.is_at threads shapes me t vs)), LIBRARY_ARGS) ∷ []) (go vs) in
+      ((not (each_thread threads (λ t. named.is_at threads shapes me t vs)), LIBRARY_ARGS) ∷ []) (go vs) in
       refused_by_orderly
       ((list_any (leaves_range 4) ps || (some && leaves_range n own), POINTER_RANGE)
-      ∷ (list_any (parts.outside threads shapes me 4) ps || (some && parts.outside threads shapes me n own), OUT_OF_OBJECT)
+      ∷ (
+        list_any (named.outside threads shapes me 4) ps ||
+            (some && named.outside threads shapes me n own),
+        OUT_OF_OBJECT,
+      )
       ∷ (list_any (λ p. not (is_cell shapes kind.Int p)) ps || (some && x.cut threads shapes me n own), CELL_TYPE)
       ∷ [])
       (bind (gathered read ps) chosen)
       (then_orderly (gathered read ps) chosen (gathered_orderly read ps (number_orderly kind.Int)) (λ vs.
-      refused_by_orderly ((not (each_thread threads (λ t. parts.is_at threads shapes me t vs)), LIBRARY_ARGS) ∷ [])
+      refused_by_orderly ((not (each_thread threads (λ t. named.is_at threads shapes me t vs)), LIBRARY_ARGS) ∷ [])
       (go vs) (permuted_orderly dst src n vs)))
 
   outcome_orderly : (r : Result ℤ ℕ) → Orderly false ℤ (x.outcome threads shapes me r)

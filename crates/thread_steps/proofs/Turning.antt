@@ -146,7 +146,7 @@ module _ (τ : Thread) where
     answered_steps true r rest σ s = record { turn = pushed σ.actions y b c s.turn h; noted = s.noted; deep = s.deep }
     answered_steps false r rest σ s = (b, s.turn)
 
-    from_steps : (rs : List Reply) (σ : State) → Stands d b v σ → Leads d c v (a.answered_from τ kind y rs σ)
+    from_steps : (rs : List Reply) (σ : State) → Stands d b v σ → Leads d c v (parts.answered_from τ kind y rs σ)
     from_steps [] σ s = (c, pushed σ.actions y b c s.turn h)
     from_steps (r ∷ rest) σ s = answered_steps (fits τ.threads τ.shapes kind y r) r rest σ s
 
@@ -283,7 +283,7 @@ module _ (τ : Thread) where
 
   -- ---- barriers
 
-  noted_steps : (d : ℕ) (b v w : Bool) → Steps (Unit {0}) d b v b w (change (a.with_notified w))
+  noted_steps : (d : ℕ) (b v w : Bool) → Steps (Unit {0}) d b v b w (change (parts.with_notified w))
   noted_steps d b v w = record { by = λ σ h. record { turn = h.turn; noted = refl; deep = h.deep } }
 
   does_steps : (d : ℕ) (b v c : Bool) (at : Place) (y : Action) → turned (Some b) y ≡ Some c
@@ -308,7 +308,7 @@ module _ (τ : Thread) where
     where
       by_noted : (v : Bool) (σ : State) → Stands d v v σ
           → Ends d (bind (choose v (fault PHASE_ORDER at) skip σ)
-          (λ _. a.does τ at (act.Notify mark) >> change (a.with_notified true)))
+          (λ _. a.does τ at (act.Notify mark) >> change (parts.with_notified true)))
       by_noted true σ h = (true, h.turn)
       by_noted false σ h =
           leads_ends d true _ ((then_steps d false false true false true true (a.does τ at (act.Notify mark)) _
@@ -323,7 +323,7 @@ module _ (τ : Thread) where
     where
       by_noted : (v : Bool) (σ : State) → Stands d v v σ
           → Ends d (bind (choose (not v) (fault PHASE_ORDER at) skip σ)
-          (λ _. a.does τ at (act.Wait mark) >> change (a.with_notified false)))
+          (λ _. a.does τ at (act.Wait mark) >> change (parts.with_notified false)))
       by_noted false σ h = (false, h.turn)
       by_noted true σ h =
           leads_ends d false _ ((then_steps d true true false true false false (a.does τ at (act.Wait mark)) _
@@ -336,7 +336,7 @@ module _ (τ : Thread) where
     expansion private = library_call τ.threads τ.shapes τ.number private call shape args
 
     abbrev goes_on : Doing Value
-    goes_on = know l.private_shapes >>= (λ private. x.run τ at
+    goes_on = know parts.private_shapes >>= (λ private. x.run τ at
         (library_call τ.threads τ.shapes τ.number private call shape args) >>= (λ v. give (value.Scalar v)))
 
     goes_steps : (flag : Bool) → (is_some (meet_number call) ≡ true → flag ≡ false)
@@ -344,8 +344,8 @@ module _ (τ : Thread) where
     goes_steps flag h = record {
       by = λ σ s.
           (then_steps d flag flag flag flag flag flag (x.run τ at
-          (library_call τ.threads τ.shapes τ.number (l.private_shapes σ) call shape args)) _
-          (run_steps d flag at _ (library_orderly flag τ.threads τ.shapes τ.number (l.private_shapes σ) call shape
+          (library_call τ.threads τ.shapes τ.number (parts.private_shapes σ) call shape args)) _
+          (run_steps d flag at _ (library_orderly flag τ.threads τ.shapes τ.number (parts.private_shapes σ) call shape
           args h).by)
           (λ v. give_steps d flag flag (value.Scalar v))).by σ s;
     }
@@ -357,7 +357,7 @@ module _ (τ : Thread) where
 
     by_controlled : (t : Bool) (σ : State) → Stands d σ.notified σ.notified σ
         → Ends d (bind
-        (bind (choose t (fault BARRIER_IN_FORALL at) skip σ) (λ _. fault_if a.is_notified PHASE_ORDER at))
+        (bind (choose t (fault BARRIER_IN_FORALL at) skip σ) (λ _. fault_if parts.is_notified PHASE_ORDER at))
         (λ _. goes_on))
     by_controlled true σ h = (σ.notified, h.turn)
     by_controlled false σ h = by_noted σ.notified σ h

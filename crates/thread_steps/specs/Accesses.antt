@@ -1,9 +1,8 @@
 -- Accesses to objects: of a shared one by an action, of a private one in the thread's store (C99 6.5.16; UPC 6.5.1.1),
 -- and the calls of the library as they go on.
-use Rattle.std.specs.Prelude.{ℕ, ℤ, Bool, false, [], Option, Some, None, Result, Ok, Err}
+use Rattle.std.specs.Prelude.{ℕ, ℤ, Bool, false, [], Some, None, Result, Ok, Err}
 use Rattle.upc_text.specs.declared.place.Place.{Place}
 use Rattle.block_layout.specs.declared.kind.Kind.{Kind}
-use Rattle.block_layout.specs.declared.kind.Shape.{Shape}
 use Rattle.block_layout.specs.declared.place.ObjectRef.{ObjectRef}
 use Rattle.block_layout.specs.declared.place.SharedPtr.{SharedPtr}
 use Rattle.block_layout.specs.declared.place.LocalPtr.{LocalPtr}
@@ -18,9 +17,8 @@ use Rattle.upc_values.specs.declared.scalar.Value.TheVariants as value
 use Rattle.upc_values.specs.declared.action.Action.TheVariants as act
 use Rattle.upc_values.specs.Views.{shape_at}
 use Rattle.upc_values.specs.Expansion.{Expansion, Gives, Fails, Reads, Asks, Loads, Stores, value_in}
-use Rattle.private_store.specs.Live.{Live}
 use Rattle.private_store.specs.Cells.{loaded, stored}
-use Rattle.thread_steps.specs.States.{Thread, State, Res, Val, Doing, ◌>>=◌, ◌>>◌, give, skip, fault}
+use Rattle.thread_steps.specs.States.{Thread, Val, Doing, ◌>>=◌, ◌>>◌, give, skip, fault}
 use Rattle.thread_steps.specs.States.{valued}
 use Rattle.thread_steps.specs.Values.{kept, kept_scalar, scalar_of}
 use Rattle.thread_steps.specs.Actions.{ask}
@@ -52,12 +50,6 @@ module _ (τ : Thread) where
     r ← ask τ (Some kind) (act.Read l strict)
     give (value_in r)
 
-  -- The write of a location, strict or relaxed (UPC 6.5.1.1).
-  abbrev pub write : Bool → Loc → Scalar → Doing (Unit {0})
-  write strict l v = do
-    ask τ None (act.Write strict l v)
-    skip
-
   -- The read of the cell of a kind at a pointer-to-shared, strict or relaxed (C99 6.5, UPC 6.5.1.1).
   abbrev pub load_shared : Kind → Bool → Place → SharedPtr → Doing Value
   load_shared kind strict at p = do
@@ -70,34 +62,28 @@ module _ (τ : Thread) where
   abbrev pub save_shared : Kind → Bool → Place → SharedPtr → Value → Doing (Unit {0})
   save_shared kind strict at p v = do
     l ← valued at (cell kind p)
-    write strict l (kept_scalar kind (scalar_of v))
+    ask τ None (act.Write strict l (kept_scalar kind (scalar_of v)))
+    skip
 
-  -- The read of a cell through a value, by what the value is: through a pointer-to-local into shared space it is
-  -- relaxed, and through null or what is no pointer it is run error 4 (C99 6.5.3.2, UPC 6.4.3).
-  abbrev pub load_at : Kind → Bool → Place → Value → Doing Value
-  load_at kind strict at (value.Scalar (Shared p)) = load_shared kind strict at p
-  load_at kind strict at (value.Local (local.Shared object thread offset)) = load_shared kind false at
-      (into_shared object thread offset)
-  load_at kind strict at (value.Local p) = load_private kind at p
-  load_at kind strict at v = fault NULL_ACCESS at
-
-  -- The write of a cell through a value, by what the value is: through a pointer-to-local into shared space it is
-  -- relaxed, and through null or what is no pointer it is run error 4 (C99 6.5.3.2, UPC 6.4.3).
-  abbrev pub save_at : Kind → Bool → Place → Value → Value → Doing (Unit {0})
-  save_at kind strict at (value.Scalar (Shared p)) v = save_shared kind strict at p v
-  save_at kind strict at (value.Local (local.Shared object thread offset)) v = save_shared kind false at
-      (into_shared object thread offset) v
-  save_at kind strict at (value.Local p) v = save_private kind at p v
-  save_at kind strict at p v = fault NULL_ACCESS at
-
-  -- The value of the cell of a kind to which a pointer leads. Through a pointer-to-local a shared object is accessed
-  -- relaxed, and what is no pointer counts as null (C99 6.5.3.2, UPC 6.5.1.1).
+  -- The value of the cell of a kind to which a value leads, by what the value is: through a pointer-to-local into
+  -- shared space it is read relaxed, and through null or what is no pointer it is run error 4 (C99 6.5.3.2; UPC 6.4.3,
+  -- 6.5.1.1).
   unfoldable pub load : Kind → Bool → Place → Value → Doing Value
-  load kind strict at p = load_at kind strict at p
+  load kind strict at (value.Scalar (Shared p)) = load_shared kind strict at p
+  load kind strict at (value.Local (local.Shared object thread offset)) = load_shared kind false at
+      (into_shared object thread offset)
+  load kind strict at (value.Local p) = load_private kind at p
+  load kind strict at v = fault NULL_ACCESS at
 
-  -- The cell of a kind to which a pointer leads gets a new value (C99 6.5.16, UPC 6.5.1.1).
+  -- The cell of a kind to which a value leads gets a new value: through a pointer-to-local into shared space it is
+  -- written relaxed, and through null or what is no pointer it is run error 4 (C99 6.5.3.2, 6.5.16; UPC 6.4.3,
+  -- 6.5.1.1).
   unfoldable pub save : Kind → Bool → Place → Value → Value → Doing (Unit {0})
-  save kind strict at p v = save_at kind strict at p v
+  save kind strict at (value.Scalar (Shared p)) v = save_shared kind strict at p v
+  save kind strict at (value.Local (local.Shared object thread offset)) v = save_shared kind false at
+      (into_shared object thread offset) v
+  save kind strict at (value.Local p) v = save_private kind at p v
+  save kind strict at p v = fault NULL_ACCESS at
 
   -- A call of the library, step by step; its run errors stand at the call.
   abbrev pub expanded : {A : Type 0} → Place → Expansion A → Doing A

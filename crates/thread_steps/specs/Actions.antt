@@ -1,5 +1,5 @@
 -- What a thread asks for, and what it does with the reply (UPC 6.6.1; C99 7.20.4).
-use Rattle.std.specs.Prelude.{ℕ, ℤ, ◌+◌, ◌%◌, ◌==◌, Bool, true, false, not, List, [], ◌∷◌, ◌++◌, length, Option}
+use Rattle.std.specs.Prelude.{ℤ, ◌+◌, ◌%◌, ◌==◌, Bool, true, false, not, List, [], ◌∷◌, ◌++◌, length, Option}
 use Rattle.std.specs.Prelude.{None}
 use Rattle.upc_text.specs.declared.place.Place.{Place}
 use Rattle.block_layout.specs.declared.kind.Kind.{Kind}
@@ -19,28 +19,18 @@ use Rattle.thread_steps.specs.States.{choose, over, fault, fault_if}
 abbrev pub is_controlled : State → Bool
 is_controlled σ = not (controls σ.store == 0)
 
--- The thread has notified and not yet waited (UPC 6.6.1).
-abbrev pub is_notified : State → Bool
-is_notified σ = σ.notified
-
--- The state in which the thread has notified and not yet waited, or has not (UPC 6.6.1).
-abbrev pub with_notified : Bool → State → State
-with_notified b σ = record σ { notified = b }
-
 -- A reply that fits the action answers it; else the thread ends, and the action is not done.
 abbrev pub answered : Bool → Action → Reply → List Reply → Doing Reply
 answered true a r rest = λ σ. Val r (record σ { actions = σ.actions ++ a ∷ []; replies = rest })
 answered false a r rest = λ σ. Over (Misfit (length σ.actions)) σ
 
--- The next of the replies answers the action; where none is left, the thread wants the action.
-abbrev pub answered_from : Thread → Option Kind → Action → List Reply → Doing Reply
-answered_from τ kind a [] = over (Wants a)
-answered_from τ kind a (r ∷ rest) = answered (fits τ.threads τ.shapes kind a r) a r rest
-
 module _ (τ : Thread) where
-  -- One action, answered by the next reply. A read is of a cell of that kind.
+  -- One action, answered by the next reply; where none is left, the thread wants the action. A read is of a cell of
+  -- that kind.
   unfoldable pub ask : Option Kind → Action → Doing Reply
-  ask kind a = λ σ. answered_from τ kind a σ.replies σ
+  ask kind a = do
+    replies ← know (λ σ. σ.replies)
+    elim replies [ [] ↦ over (Wants a) | r ∷ rest ↦ answered (fits τ.threads τ.shapes kind a r) a r rest ]
 
   -- One action whose reply is Done, or a refusal, which ends the thread by its run error.
   abbrev pub does : Place → Action → Doing (Unit {0})
@@ -61,9 +51,9 @@ module _ (τ : Thread) where
   unfoldable pub notify : Place → Mark → Doing (Unit {0})
   notify at mark = do
     fault_if is_controlled BARRIER_IN_FORALL at
-    fault_if is_notified PHASE_ORDER at
+    fault_if (λ σ. σ.notified) PHASE_ORDER at
     does at (act.Notify mark)
-    change (with_notified true)
+    change (λ σ. record σ { notified = true })
 
   -- A upc_wait: run error 12 in a controlling body, and run error 10 where no notify is open (UPC 6.6.1, 6.6.2).
   unfoldable pub wait : Place → Mark → Doing (Unit {0})
@@ -71,14 +61,14 @@ module _ (τ : Thread) where
     fault_if is_controlled BARRIER_IN_FORALL at
     fault_if (λ σ. not σ.notified) PHASE_ORDER at
     does at (act.Wait mark)
-    change (with_notified false)
+    change (λ σ. record σ { notified = false })
 
   -- A collective call may begin: run error 12 in a controlling body, and run error 10 after a notify without its wait
   -- (UPC 6.6.1, 6.6.2, 7.3).
   unfoldable pub meet : Place → Doing (Unit {0})
   meet at = do
     fault_if is_controlled BARRIER_IN_FORALL at
-    fault_if is_notified PHASE_ORDER at
+    fault_if (λ σ. σ.notified) PHASE_ORDER at
 
   -- A upc_fence (UPC 6.6.1).
   unfoldable pub fence : Doing (Unit {0})

@@ -1,5 +1,5 @@
 -- Blocks and calls, and the bodies of upc_foralls (C99 6.2.4, 6.5.2.2, 6.8.2; UPC 6.6.2).
-use Rattle.std.specs.Prelude.{ℕ, suc, pred, ◌+◌, pos, ◌==◌, nat_le, nat_lt, Bool, if◌then◌else◌, List, length, Option}
+use Rattle.std.specs.Prelude.{ℕ, suc, pred, ◌+◌, pos, ◌==◌, nat_le, nat_lt, Bool, if◌then◌else◌, List, length}
 use Rattle.std.specs.Prelude.{Some, None, Result, Ok, Err}
 use Rattle.upc_text.specs.declared.place.Place.{Place}
 use Rattle.block_layout.specs.declared.kind.Shape.{Shape}

@@ -1,5 +1,5 @@
 -- The calls of the library (C99 7.19.6.3; UPC 7.2, 7.3).
-use Rattle.std.specs.Prelude.{ℕ, ℤ, pos, Bool, true, false, ◌&&◌, List, [], ◌∷◌, ◌++◌, length, map, Option, Some}
+use Rattle.std.specs.Prelude.{ℕ, pos, Bool, true, false, ◌&&◌, List, [], ◌∷◌, ◌++◌, length, map, Some}
 use Rattle.std.specs.Prelude.{None, is_some, option_map, slice_get}
 use Rattle.upc_text.specs.declared.place.Place.{Place}
 use Rattle.block_layout.specs.declared.kind.Kind.TheVariants as kind
@@ -8,31 +8,16 @@ use Rattle.integers.specs.Integers.{converted}
 use Rattle.upc_values.specs.declared.scalar.Value.{Value}
 use Rattle.upc_values.specs.declared.scalar.Value.TheVariants as value
 use Rattle.upc_values.specs.declared.action.Action.TheVariants as act
-use Rattle.upc_values.specs.declared.scalar.Scalar.{Scalar}
 use Rattle.upc_values.specs.declared.library.LibraryCall.{LibraryCall}
 use Rattle.upc_values.specs.declared.library.LibraryCall.TheVariants.{AllAlloc, Reduce, PrefixReduce, GlobalExit}
 use Rattle.upc_values.specs.Calls.{Call, Other, call_of}
 use Rattle.upc_values.specs.LibraryCalls.{library_call, meet_number, scalars, with_element}
 use Rattle.upc_values.specs.Printing.{printed}
 use Rattle.private_store.specs.Live.{thing}
-use Rattle.thread_steps.specs.States.{Thread, State, Doing, ◌>>=◌, ◌>>◌, give, skip, know, choose}
+use Rattle.thread_steps.specs.States.{Thread, Doing, ◌>>=◌, ◌>>◌, give, skip, know, choose}
 use Rattle.thread_steps.specs.Values.{number, number_of}
 use Rattle.thread_steps.specs.Actions.{ask, meet, exit}
 use Rattle.thread_steps.specs.Accesses.{run}
-
--- The shapes of the private objects that live, by number.
-abbrev pub private_shapes : State → ℕ → Option Shape
-private_shapes σ number = option_map (λ x. x.shape) (thing number σ.store.objects)
-
--- The integer that the first of some values is; 0 where there is none.
-abbrev pub first_number : List Value → ℤ
-first_number [] = pos 0
-first_number (v ∷ vs) = number_of v
-
--- The call is upc_global_exit (UPC 7.2.1).
-abbrev pub is_exit : LibraryCall → Bool
-is_exit GlobalExit = true
-is_exit call = false
 
 -- The call is one of the collective calls 1 to 12 (UPC 7.2.2, 7.2.4, 7.3).
 abbrev pub is_call : Call → Bool
@@ -61,12 +46,12 @@ is_formed shapes call shape args =
     && has_shape shapes call shape
 
 module _ (τ : Thread) where
-  -- A call of the library does what its definition says; a collective one begins only where the thread may meet
-  -- (UPC 6.6.1, 7).
+  -- A call of the library does what its definition says, with the shapes of the private objects that live, by number; a
+  -- collective one begins only where the thread may meet (UPC 6.6.1, 7).
   abbrev pub called : LibraryCall → (shape : ℕ) → Place → List Value → Doing Value
   called call shape at args = do
     choose (is_some (meet_number call)) (meet τ at) skip
-    private ← know private_shapes
+    private ← know (λ σ number. option_map (λ x. x.shape) (thing number σ.store.objects))
     v ← run τ at (library_call τ.threads τ.shapes τ.number private call shape args)
     give (value.Scalar v)
 
@@ -79,7 +64,9 @@ module _ (τ : Thread) where
   -- A call of the library with arguments of its parameters' types; an allocation makes elements of the shape with
   -- that number, and upc_global_exit ends the thread.
   unfoldable pub library : LibraryCall → (shape : ℕ) → Place → List Value → Doing Value
-  library call shape at args = choose (is_exit call) (exit τ (first_number args)) (formed_call call shape at args)
+  library call shape at args =
+      choose (elim call [ GlobalExit ↦ true | _ ↦ false ])
+      (exit τ (elim args [ v ∷ vs ↦ number_of v | [] ↦ pos 0 ])) (formed_call call shape at args)
 
   -- A printf: one Print of its text, whose number of bytes it gives (C99 7.19.6.3).
   unfoldable pub print : (format : List ℕ) → List Value → Doing Value

@@ -80,15 +80,12 @@ same_value (value.Scalar (Lock m)) (value.Scalar (Lock n)) = m == n
 same_value (value.Local q) (value.Local p) = same_local q p
 same_value q p = false
 
--- The run error of a place outside its object: of a shared one, or of a private one.
-abbrev pub outside : Value → ℕ
-outside (value.Scalar v) = OUT_OF_OBJECT
-outside (value.Local p) = PRIVATE_RANGE
-
--- An index lies in a row of an array of arrays, which has so many elements; else a run error of the pointer's object
--- (C99 6.5.2.1, 6.5.6).
+-- An index lies in a row of an array of arrays, which has so many elements; else a run error of the pointer's object,
+-- which is a shared or a private one (C99 6.5.2.1, 6.5.6).
 abbrev pub in_row : (count : ℕ) → Place → Value → ℤ → Doing (Unit {0})
-in_row count at p i = choose (int_le (pos 0) i && int_lt i (pos count)) skip (fault (outside p) at)
+in_row count at p i =
+    choose (int_le (pos 0) i && int_lt i (pos count)) skip
+    (fault (elim p [ value.Scalar v ↦ OUT_OF_OBJECT | value.Local q ↦ PRIVATE_RANGE ]) at)
 
 module _ (τ : Thread) where
   -- The pointer i elements after another; what is no pointer counts as null (C99 6.5.6, UPC 6.4.2).

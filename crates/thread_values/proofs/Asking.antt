@@ -16,7 +16,8 @@ use Rattle.thread_steps.specs.States.{Thread, State, Val, bind, give, skip, choo
 use Rattle.thread_steps.specs.Actions.{meet, exit}
 use Rattle.thread_steps.specs.Accesses.{run, expanded}
 use Rattle.thread_steps.specs.Values.{number}
-use Rattle.thread_steps.specs.Library.{library, called, formed_call, is_formed, is_exit, first_number, private_shapes}
+use Rattle.thread_steps.specs.Library.{library, called, formed_call, is_formed}
+use Rattle.thread_steps.specs.layer.Parts.{first_number, private_shapes, is_exit}
 use Rattle.thread_steps.proofs.Thens.{then_same}
 use Rattle.thread_values.specs.declared.library.LibraryStep.{LibraryStep}
 use Rattle.thread_values.specs.layer.Results.{given_at_once}

@@ -14,7 +14,8 @@ use Rattle.thread_steps.specs.States.{Thread, State, Res, bind, give, skip, choo
 use Rattle.thread_steps.specs.Actions.{meet, exit}
 use Rattle.thread_steps.specs.Accesses.{run}
 use Rattle.thread_steps.specs.Values.{number}
-use Rattle.thread_steps.specs.Library.{library, called, formed_call, is_formed, is_exit, first_number, private_shapes}
+use Rattle.thread_steps.specs.Library.{library, called, formed_call, is_formed}
+use Rattle.thread_steps.specs.layer.Parts.{first_number, private_shapes, is_exit}
 use Rattle.thread_values.specs.layer.Results.{asks_nothing, given_at_once}
 
 plain_call : (shapes : List Shape) (shape : ℕ) (args : List Value) (c : LibraryCall) → asks_nothing c ≡ true

@@ -10,7 +10,8 @@ use Rattle.upc_values.specs.declared.library.LibraryCall.TheVariants as call
 use Rattle.upc_values.specs.Calls.{call_of}
 use Rattle.upc_values.specs.Expansions.{collective}
 use Rattle.upc_values.specs.LibraryCalls.{library_call, valued, meet_number}
-use Rattle.thread_steps.specs.Library.{is_formed, is_exit, is_call}
+use Rattle.thread_steps.specs.Library.{is_formed, is_call}
+use Rattle.thread_steps.specs.layer.Parts.{is_exit}
 use Rattle.thread_values.specs.layer.Collectives.{collective_number, scalars_met}
 
 -- What holds of the eight calls, by their numbers, holds of each.

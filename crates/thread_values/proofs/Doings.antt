@@ -20,9 +20,10 @@ use Rattle.thread_steps.specs.declared.elements.Elements.{Elements}
 use Rattle.thread_steps.specs.States.{Thread, State, ◌>>=◌, give, valued, skip, choose, fault}
 use Rattle.thread_steps.specs.Values.{number, number_of}
 use Rattle.thread_steps.specs.Operators.{operate, apply}
-use Rattle.thread_steps.specs.Pointers.{difference, order, apart, in_row, outside}
+use Rattle.thread_steps.specs.Pointers.{difference, order, apart, in_row}
+use Rattle.thread_steps.specs.layer.Parts.{outside, private_shapes}
 use Rattle.thread_steps.specs.Accesses.{run}
-use Rattle.thread_steps.specs.Library.{library, private_shapes}
+use Rattle.thread_steps.specs.Library.{library}
 use Rattle.thread_values.specs.layer.Results.{number_value, operated, applied, ordered, row_test, asks_nothing, given_at_once}
 
 -- A number, or a run error, becomes a value, or the same run error.

@@ -17,7 +17,8 @@ use Rattle.thread_steps.specs.States.{Thread, State, bind, give, skip, choose}
 use Rattle.thread_steps.specs.Actions.{meet, exit}
 use Rattle.thread_steps.specs.Accesses.{run}
 use Rattle.thread_steps.specs.Values.{number}
-use Rattle.thread_steps.specs.Library.{library, called, formed_call, is_formed, is_exit, first_number, private_shapes}
+use Rattle.thread_steps.specs.Library.{library, called, formed_call, is_formed}
+use Rattle.thread_steps.specs.layer.Parts.{first_number, private_shapes, is_exit}
 use Rattle.upc_library.specs.layer.Wishes.{area_of}
 use Rattle.thread_values.specs.layer.Copies.{copies, side_in, copying_of}
 

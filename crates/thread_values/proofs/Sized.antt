@@ -13,7 +13,7 @@ use Rattle.upc_values.specs.Calls.{call_of}
 use Rattle.upc_values.specs.Expansion.{Expansion, Gives}
 use Rattle.upc_values.specs.LibraryCalls.{library_call, allocation, all_alloc, scalars}
 use Rattle.upc_values.specs.Scalars as scalar
-use Rattle.thread_steps.specs.Library.{is_call, is_formed}
+use Rattle.thread_steps.specs.Library.{is_formed, is_call}
 use Rattle.thread_values.specs.code.Parts.{two_sizes, one_size}
 
 abbrev with_two : Option (ℕ × ℕ) → (ℕ → ℕ → Expansion Scalar) → Expansion Scalar

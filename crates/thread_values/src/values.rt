@@ -2,7 +2,7 @@
 
 ghost use Rattle.std.specs.Prelude.{◌≡◌, ℕ, List, IfSome};
 ghost use Rattle.block_layout.specs.declared.kind.Shape.{Shape};
-ghost use Rattle.thread_steps.specs.Library as library;
+ghost use Rattle.thread_steps.specs.layer.Parts as parts;
 ghost use Rattle.thread_steps.specs.Values as pure;
 ghost use Rattle.thread_steps.specs.layer.Ranges.{IsHeld, IsHeldScalar, IsNumber};
 
@@ -30,7 +30,7 @@ pub fn number_of(v: &Value) -> i128
 
 // The first argument as a number, 0 where there is none.
 fn first_number(args: &[Value]) -> i128
-    ensures { result ≡ library.first_number args.now }
+    ensures { result ≡ parts.first_number args.now }
 {
     match args.first() {
         None => 0,
@@ -40,7 +40,7 @@ fn first_number(args: &[Value]) -> i128
 
 /// The first argument, where it is an int. What is none cannot come of a typed program.
 pub fn first_int(args: &[Value]) -> Option<i32>
-    ensures { IfSome result (λ v. v ≡ library.first_number args.now) }
+    ensures { IfSome result (λ v. v ≡ parts.first_number args.now) }
 {
     let v = first_number(args);
     if v < -2_147_483_648 || v > 2_147_483_647 {

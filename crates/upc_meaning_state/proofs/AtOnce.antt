@@ -9,7 +9,8 @@ use Rattle.upc_values.specs.declared.library.LibraryCall.{LibraryCall}
 use Rattle.upc_values.specs.LibraryCalls.{library_call}
 use Rattle.thread_steps.specs.States.{Thread, State, Val, Over, choose, valued}
 use Rattle.thread_steps.specs.Actions.{exit}
-use Rattle.thread_steps.specs.Library.{library, formed_call, is_exit, first_number, private_shapes}
+use Rattle.thread_steps.specs.Library.{library, formed_call}
+use Rattle.thread_steps.specs.layer.Parts.{first_number, private_shapes, is_exit}
 use Rattle.thread_values.specs.layer.Results.{asks_nothing, given_at_once}
 use Rattle.thread_values.proofs.AtOnce as once
 

@@ -16,10 +16,10 @@ use Rattle.upc_values.specs.Scalars.{zero}
 use Rattle.upc_values.specs.LibraryCalls.{library_call, valued}
 use Rattle.thread_steps.specs.States.{Thread, State, Res, Val, Over, bind, give, skip, choose}
 use Rattle.thread_steps.specs.Values.{number}
-use Rattle.thread_steps.specs.Actions.{ask, answered, answered_from, meet, exit}
+use Rattle.thread_steps.specs.Actions.{ask, answered, meet, exit}
 use Rattle.thread_steps.specs.Accesses.{run}
-use Rattle.thread_steps.specs.Library.{library, called, formed_call, is_call, is_formed, first_number}
-use Rattle.thread_steps.specs.Library.{private_shapes}
+use Rattle.thread_steps.specs.Library.{library, called, formed_call, is_formed, is_call}
+use Rattle.thread_steps.specs.layer.Parts.{first_number, private_shapes, answered_from}
 use Rattle.thread_values.specs.layer.Collectives.{collective_number, scalars_met}
 use Rattle.thread_values.proofs.CollectiveCalls.{collective_no_exit, collective_meets, collective_formed, collective_means}
 use Rattle.upc_library.specs.layer.Wishes.{IsWish, kind_read}

@@ -9,7 +9,8 @@ use Rattle.upc_values.specs.declared.library.LibraryCall.{LibraryCall}
 use Rattle.upc_values.specs.Copying as said
 use Rattle.upc_values.specs.LibraryCalls.{valued}
 use Rattle.thread_steps.specs.States.{Thread, State}
-use Rattle.thread_steps.specs.Library.{library, private_shapes}
+use Rattle.thread_steps.specs.Library.{library}
+use Rattle.thread_steps.specs.layer.Parts.{private_shapes}
 use Rattle.upc_library.specs.layer.Walks.{Left, Source, rest, rest_of, replies_left, replies_of}
 use Rattle.upc_library.specs.layer.Wishes.{expansion}
 use Rattle.upc_library.specs.declared.copying.CopySpec.{CopySpec}

@@ -3,6 +3,7 @@
 ghost use Rattle.std.specs.Prelude.{IfOk};
 ghost use Rattle.private_store.specs.Cells.{IsPrivate};
 ghost use Rattle.thread_steps.specs.Accesses as pure;
+ghost use Rattle.thread_steps.specs.layer.Parts as parts;
 ghost use Rattle.upc_meaning_state.specs.layer.Came.{Came, state_seen};
 ghost use Rattle.upc_meaning_settings.specs.layer.Runners.{Fits, thread_seen};
 
@@ -41,7 +42,7 @@ impl<'r> Progress<'r> {
         loc: Loc,
         value: Scalar,
     ) -> Result<Step<()>, OutOfMemory>
-        ensures { IfOk result (λ s. Came (pure.write (thread_seen runner.entry) strict loc value (state_seen self.old))
+        ensures { IfOk result (λ s. Came (parts.write (thread_seen runner.entry) strict loc value (state_seen self.old))
             s self.new) }
     {
         match self.ask(runner, None, Action::Write { loc, value, strict })? {

@@ -6,6 +6,7 @@ ghost use Rattle.typed_tree.specs.ViewStatements as views;
 ghost use Rattle.typed_tree.specs.ViewStatements.{view_function};
 ghost use Rattle.thread_steps.specs.Blocks as blocks;
 ghost use Rattle.source_meaning.specs.Threads as mean;
+ghost use Rattle.source_meaning.specs.layer.Parts as parts;
 ghost use Rattle.upc_meaning_state.specs.layer.Came.{Came, state_seen};
 ghost use Rattle.upc_meaning_settings.specs.layer.Runners.{Fits};
 ghost use Rattle.upc_meaning_settings.specs.layer.Settings.{running_seen};
@@ -27,7 +28,7 @@ impl<'r> Progress<'r> {
         function: &Function,
         items: &[Item],
     ) -> Result<Step<()>, OutOfMemory>
-        ensures { IfOk result (λ s. Came (blocks.open_block 0 (mean.shapes_in (running_seen setting.entry)
+        ensures { IfOk result (λ s. Came (blocks.open_block 0 (parts.shapes_in (running_seen setting.entry)
             (view_function function.now) (views.view_items items.now)) place (state_seen self.old)) s self.new) }
     {
         let mut shapes = Shapes::new(setting.runner.alloc);

@@ -2,6 +2,7 @@
 
 ghost use Rattle.std.specs.Prelude.{◌≡◌, IsTrue, All, IfOk, true};
 ghost use Rattle.thread_steps.specs.Library as pure;
+ghost use Rattle.thread_steps.specs.layer.Parts as parts;
 ghost use Rattle.thread_steps.specs.layer.Ranges.{IsNumber};
 ghost use Rattle.thread_steps.specs.Values.{number_of};
 ghost use Rattle.upc_values.specs.LibraryCalls.{asks};
@@ -33,7 +34,7 @@ pub(crate) fn are_numeric(args: &[Value]) -> bool
 }
 
 fn is_exit(call: LibraryCall) -> bool
-    ensures { result ≡ pure.is_exit call }
+    ensures { result ≡ parts.is_exit call }
 {
     matches!(call, LibraryCall::GlobalExit)
 }
@@ -130,7 +131,7 @@ impl<'r> Progress<'r> {
         shape: u32,
         args: &[Value],
     ) -> Result<Step<Value>, OutOfMemory>
-        requires { pure.is_exit call ≡ true }
+        requires { parts.is_exit call ≡ true }
         ensures { IfOk result (λ s. Came (pure.library (thread_seen runner.entry) call shape place args.now
             (state_seen self.old)) s self.new) }
     {

@@ -3,6 +3,7 @@
 ghost use Rattle.std.specs.Prelude.{IfOk};
 ghost use Rattle.typing_rules.specs.Nodes.{view_attr};
 ghost use Rattle.source_meaning.specs.Expressions as mean;
+ghost use Rattle.source_meaning.specs.layer.Parts as parts;
 ghost use Rattle.upc_meaning_state.specs.layer.Came.{Came, state_seen};
 ghost use Rattle.upc_meaning_settings.specs.layer.Runners.{Fits};
 ghost use Rattle.upc_meaning_settings.specs.layer.Settings.{running_seen};
@@ -42,8 +43,8 @@ impl<'r> Progress<'r> {
         v: Value,
     ) -> Result<Step<Value>, OutOfMemory>
         requires { Fits setting.runner }
-        ensures { IfOk result (λ s. Came (mean.value_in (running_seen setting.entry) strict place (view_attr attr.now) v
-            (state_seen self.old)) s self.new) }
+        ensures { IfOk result (λ s. Came (parts.value_in (running_seen setting.entry) strict place (view_attr attr.now)
+            v (state_seen self.old)) s self.new) }
     {
         match attr.form {
             Form::Lvalue(_) => self.held(setting, strict, place, &attr.ctype, v),

@@ -4,6 +4,7 @@ ghost use Rattle.std.specs.Prelude.{◌≡◌, IfOk};
 ghost use Rattle.upc_types.specs.View.{view};
 ghost use Rattle.typed_tree.specs.ViewTree.{view_expr};
 ghost use Rattle.source_meaning.specs.Expressions as mean;
+ghost use Rattle.source_meaning.specs.layer.Parts as parts;
 ghost use Rattle.upc_meaning_state.specs.layer.Came.{Came, state_seen};
 ghost use Rattle.upc_meaning_state.specs.layer.Operations as pure;
 ghost use Rattle.upc_meaning_settings.specs.layer.Runners.{Fits};
@@ -35,8 +36,8 @@ fn step_operator(setting: Setting<'_>, op: StepOperator) -> BinOp
 }
 
 // Which value of the two they give.
-fn step_value(setting: Setting<'_>, op: StepOperator, old: Value, new: Value) -> Value
-    ensures { result ≡ mean.step_value (running_seen setting.entry) op old new }
+fn step_value(op: StepOperator, old: Value, new: Value) -> Value
+    ensures { result ≡ parts.step_value old new op }
 {
     match op {
         StepOperator::IncrementFirst | StepOperator::DecrementFirst => new,
@@ -187,7 +188,7 @@ impl<'r> Progress<'r> {
         };
         match self.put_cast(setting, strict, place, conversion(t, t), place, t, p, sum)? {
             Step::Ends(end) => Ok(Step::Ends(end)),
-            Step::Gives(new) => Ok(Step::Gives(step_value(setting, op, old, new))),
+            Step::Gives(new) => Ok(Step::Gives(step_value(op, old, new))),
         }
     }
 

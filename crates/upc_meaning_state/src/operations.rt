@@ -8,6 +8,7 @@ ghost use Rattle.thread_steps.specs.Operators as operators;
 ghost use Rattle.thread_steps.specs.Pointers as pointers;
 ghost use Rattle.thread_values.specs.layer.Results.{IsRightKind};
 ghost use Rattle.source_meaning.specs.Expressions as mean;
+ghost use Rattle.source_meaning.specs.layer.Parts as parts;
 ghost use Rattle.upc_meaning_state.specs.layer.Came.{Came, state_seen};
 ghost use Rattle.upc_meaning_settings.specs.layer.Runners.{Fits, thread_seen};
 ghost use Rattle.upc_meaning_settings.specs.layer.Settings.{running_seen};
@@ -72,7 +73,7 @@ impl<'r> Progress<'r> {
         p: &Value,
         i: i128,
     ) -> Step<()>
-        ensures { Came (mean.within_row place count p.now i (state_seen self.now)) result self.now }
+        ensures { Came (parts.within_row place p.now i count (state_seen self.now)) result self.now }
     {
         match count {
             None => Step::Gives(()),
@@ -205,8 +206,8 @@ impl<'r> Progress<'r> {
         y: &Value,
     ) -> Result<Step<Value>, OutOfMemory>
         requires { Fits setting.runner }
-        ensures { IfOk result (λ s. Came (mean.on_pointer (running_seen setting.entry) place op (view t.now) x.now y.now
-            (state_seen self.now)) s self.now) }
+        ensures { IfOk result (λ s. Came (parts.on_pointer (running_seen setting.entry) place (view t.now) x.now y.now
+            op (state_seen self.now)) s self.now) }
     {
         match op {
             BinOp::Add => self.behind(setting, place, t, *x, number_of(y)),
@@ -231,8 +232,8 @@ impl<'r> Progress<'r> {
         y: &Value,
     ) -> Result<Step<Value>, OutOfMemory>
         requires { Fits setting.runner }
-        ensures { IfOk result (λ s. Came (mean.before_pointer (running_seen setting.entry) place op (view t.now) x.now
-            y.now (state_seen self.now)) s self.now) }
+        ensures { IfOk result (λ s. Came (parts.before_pointer (running_seen setting.entry) place (view t.now) x.now
+            y.now op (state_seen self.now)) s self.now) }
     {
         match op {
             BinOp::Add => self.behind(setting, place, t, *y, number_of(x)),
@@ -277,7 +278,7 @@ impl<'r> Progress<'r> {
     ) -> Result<Step<Value>, OutOfMemory>
         requires left { IfSome left IsInteger }
         requires right { IfSome right IsInteger }
-        ensures { IfOk result (λ s. Came (mean.integers place op left right x.now y.now (state_seen self.now)) s
+        ensures { IfOk result (λ s. Came (parts.integers place op left right x.now y.now (state_seen self.now)) s
             self.now) }
     {
         match (left, right) {

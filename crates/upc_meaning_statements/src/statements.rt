@@ -4,7 +4,7 @@ ghost use Rattle.std.specs.Prelude.{◌≡◌, IfOk, OnOk, None};
 ghost use Rattle.typed_tree.specs.Tree as tree;
 ghost use Rattle.typed_tree.specs.Tree.{Stands};
 ghost use Rattle.typed_tree.specs.ViewStatements as views;
-ghost use Rattle.source_meaning.specs.Statements as mean;
+ghost use Rattle.source_meaning.specs.layer.Parts as parts;
 ghost use Rattle.upc_meaning_settings.specs.layer.Settings.{running_seen};
 ghost use Rattle.upc_meaning_work.specs.layer.Seen.{armed, meant, with_item};
 ghost use Rattle.upc_meaning_work.specs.layer.Items as item;
@@ -270,7 +270,7 @@ pub fn catch<'p>(evaluation: &mut Evaluation<'p>, setting: Setting<'p>)
 
 // How a switch is left, by how its parts are (C99 6.8.6.3).
 fn caught(flow: Flow) -> Flow
-    ensures { flow_seen result ≡ mean.caught (flow_seen flow) }
+    ensures { flow_seen result ≡ parts.caught (flow_seen flow) }
 {
     match flow {
         Flow::Broke => Flow::Next,

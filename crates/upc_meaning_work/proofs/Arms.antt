@@ -19,9 +19,10 @@ use Rattle.typed_tree.specs.ViewTree.{view_expr}
 use Rattle.thread_steps.specs.States.{State, Val, Doing, bind, ◌>>=◌, ◌>>◌, give}
 use Rattle.thread_steps.specs.Values.{number}
 use Rattle.source_meaning.specs.Running.{Running}
-use Rattle.source_meaning.specs.Expressions.{inner_place, object, address, value, value_in, type_of, held}
+use Rattle.source_meaning.specs.Expressions.{inner_place, object, address, value, type_of, held}
+use Rattle.source_meaning.specs.layer.Parts.{step_value, value_in}
 use Rattle.source_meaning.specs.Expressions.{put, binary, last}
-use Rattle.source_meaning.specs.Expressions.{step_operator, step_value}
+use Rattle.source_meaning.specs.Expressions.{step_operator}
 use Rattle.source_meaning.specs.Types.{conversion}
 use Rattle.source_meaning.specs.Threads.{called}
 use Rattle.typing_rules.specs.Library.{int}
@@ -172,7 +173,7 @@ module _ (ρ : Running) (strict : Bool) (at : Place) (attr : Attr) (s t : Seen) 
   step_told o a p =
       held ρ strict at (type_of a) p >>= (λ v. binary ρ at (step_operator ρ o) (type_of a) int v (number (pos 1))
       >>= (λ w. cast ρ.thread (conversion (type_of a) (type_of a)) at w
-      >>= (λ u. put ρ strict at (type_of a) p u >> give (step_value ρ o v u))))
+      >>= (λ u. put ρ strict at (type_of a) p u >> give (step_value v u o))))
 
   step_is : (o : StepOperator) (a : Expr) (p : Given) (σ : State)
       → step_told o a p σ ≡ step ρ strict at o (type_of a) p σ
@@ -181,7 +182,7 @@ module _ (ρ : Running) (strict : Bool) (at : Place) (attr : Attr) (s t : Seen) 
       then_same (held ρ strict at (type_of a) p σ) _ _
       (λ v τ. then_same (binary ρ at (step_operator ρ o) (type_of a) int v (number (pos 1)) τ) _ _
       (λ w υ. put_last (cast ρ.thread (conversion (type_of a) (type_of a)) at w υ)
-      (λ u. put ρ strict at (type_of a) p u) (λ u. step_value ρ o v u)))
+      (λ u. put ρ strict at (type_of a) p u) (λ u. step_value v u o)))
 
   pub step_goes : (o : StepOperator) (a : Expr)
       → t ≡ more_works (Address strict a ∷ Operate strict (this (tree.Step o a)) ∷ []) s

@@ -18,7 +18,8 @@ use Rattle.thread_steps.specs.Library.{library, print}
 use Rattle.source_meaning.specs.Running.{Running, parameters_of}
 use Rattle.source_meaning.specs.Types.{conversion, conversions, parameter_conversion, promotion}
 use Rattle.source_meaning.specs.Expressions.{Calls, value, type_of, types_of, truth_after, converted_to, arguments}
-use Rattle.source_meaning.specs.Expressions.{is_printf, format_of, printed, allocated_shape}
+use Rattle.source_meaning.specs.layer.Parts.{is_printf}
+use Rattle.source_meaning.specs.Expressions.{format_of, printed, allocated_shape}
 use Rattle.source_meaning.specs.Threads.{called}
 use Rattle.upc_meaning_state.specs.layer.Libraries.{format_first}
 use Rattle.upc_meaning_state.proofs.Thens.{then_one, then_same}

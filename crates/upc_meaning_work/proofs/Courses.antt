@@ -18,7 +18,8 @@ use Rattle.thread_steps.specs.Values.{number_of}
 use Rattle.source_meaning.specs.Running.{Running}
 use Rattle.source_meaning.specs.Types.{cell_kind}
 use Rattle.source_meaning.specs.Expressions.{no_value}
-use Rattle.source_meaning.specs.Threads.{blank_of, main_on, main_place, most_calls, outcome_of, told}
+use Rattle.source_meaning.specs.Threads.{main_place, most_calls, outcome_of, blank_of}
+use Rattle.source_meaning.specs.layer.Parts.{main_on, told}
 use Rattle.source_meaning.proofs.Mains.{main_found, main_behind, main_nowhere}
 use Rattle.upc_meaning_state.specs.layer.Barriers.{passed}
 use Rattle.upc_meaning_state.proofs.Thens.{then_one}

@@ -16,11 +16,11 @@ use Rattle.thread_steps.specs.States.{State, Res, Val, Over, Unfinished, Doing, 
 use Rattle.thread_steps.specs.Actions.{tick}
 use Rattle.thread_steps.specs.Blocks.{open_block, close_block, begin_call, end_call}
 use Rattle.source_meaning.specs.Running.{Running}
-use Rattle.source_meaning.specs.layer.Parts.{given_by}
+use Rattle.source_meaning.specs.layer.Parts.{given_by, shapes_in}
 use Rattle.source_meaning.specs.Types.{cell_kind}
 use Rattle.source_meaning.specs.Expressions.{no_value}
 use Rattle.source_meaning.specs.Statements.{Flow, Next, run_items}
-use Rattle.source_meaning.specs.Threads.{called, function, body, blank_of, in_body, shapes_in, received}
+use Rattle.source_meaning.specs.Threads.{called, function, body, in_body, received, blank_of}
 use Rattle.upc_meaning_state.proofs.Thens.{then_one, then_same}
 use Rattle.upc_meaning_work.specs.layer.Seen.{Seen, meant, with_item, calls, entering, entered, inside, outside}
 use Rattle.upc_meaning_work.specs.layer.Seen.{more_works, with_flow, with_state, without}

@@ -11,7 +11,8 @@ use Rattle.typed_tree.specs.Programs.{Checked, start_of}
 use Rattle.typed_tree.specs.Tree.{Function}
 use Rattle.thread_steps.specs.States.{State}
 use Rattle.source_meaning.specs.Running.{Running}
-use Rattle.source_meaning.specs.Threads.{main_of, outcome_of, thread_outcome, told}
+use Rattle.source_meaning.specs.Threads.{main_of, outcome_of, thread_outcome}
+use Rattle.source_meaning.specs.layer.Parts.{told}
 pub use Rattle.source_meaning.proofs.Beginnings.{shapes_fit, privates_begin}
 use Rattle.upc_meaning_work.specs.layer.Courses.{comes_to, running_with, state_with}
 

@@ -15,7 +15,8 @@ use Rattle.thread_steps.specs.Values.{number_of}
 use Rattle.source_meaning.specs.Running.{Running}
 use Rattle.source_meaning.specs.Types.{integer_of}
 use Rattle.source_meaning.specs.Expressions.{Calls, type_of, value}
-use Rattle.source_meaning.specs.Statements.{Flow, Next, Does, Standing, caught, run_switch, from_case, from_default}
+use Rattle.source_meaning.specs.Statements.{Flow, Next, Standing, run_switch, from_case, from_default}
+use Rattle.source_meaning.specs.layer.Parts.{Does, caught}
 use Rattle.source_meaning.specs.Threads.{called}
 use Rattle.upc_meaning_state.proofs.Thens.{then_one, then_same}
 use Rattle.upc_meaning_work.specs.layer.Seen.{Seen, meant, with_item, more_works, popped, with_flow}

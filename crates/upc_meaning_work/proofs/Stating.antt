@@ -20,10 +20,10 @@ use Rattle.thread_steps.specs.Actions.{fence}
 use Rattle.thread_steps.specs.Blocks.{open_block, close_block}
 use Rattle.thread_steps.specs.Operators.{cast}
 use Rattle.source_meaning.specs.Running.{Running}
-use Rattle.source_meaning.specs.layer.Parts.{with_strict}
+use Rattle.source_meaning.specs.layer.Parts.{with_strict, caught}
 use Rattle.source_meaning.specs.Types.{conversion}
 use Rattle.source_meaning.specs.Expressions.{Calls, no_value, value, type_of}
-use Rattle.source_meaning.specs.Statements.{Flow, Next, Broke, Again, Gave, Standing, caught}
+use Rattle.source_meaning.specs.Statements.{Flow, Next, Broke, Again, Gave, Standing}
 use Rattle.source_meaning.specs.Statements.{synchronised, run, run_last, run_arms, run_items, shapes_of, objects_in}
 use Rattle.source_meaning.specs.Threads.{called}
 use Rattle.upc_meaning_state.proofs.Thens.{then_one, then_same, cast_in}

@@ -18,8 +18,9 @@ use Rattle.thread_steps.specs.Actions.{tick, is_controlled}
 use Rattle.thread_steps.specs.Blocks.{control, release, mine}
 use Rattle.source_meaning.specs.Running.{Running}
 use Rattle.source_meaning.specs.Expressions.{Calls, value}
-use Rattle.source_meaning.specs.Statements.{Flow, Next, Broke, Again, Gave, Does, Standing, with_objects, go_on}
-use Rattle.source_meaning.specs.Statements.{turn_on, finished, around, tested, aside, declared}
+use Rattle.source_meaning.specs.Statements.{Flow, Next, Broke, Again, Gave, Standing, with_objects}
+use Rattle.source_meaning.specs.layer.Parts.{Does, turn_on, go_on}
+use Rattle.source_meaning.specs.Statements.{finished, around, tested, aside, declared}
 use Rattle.source_meaning.specs.Statements.{run, run_items, run_switch, controlling}
 use Rattle.source_meaning.specs.Threads.{called}
 use Rattle.upc_meaning_state.proofs.Thens.{then_one, then_same}
@@ -38,7 +39,7 @@ next_is Again h = absurd (cc)
 next_is (Gave v) h = absurd (cc)
 
 stop_in : (f : Flow) (more : Does) (K : Flow → Doing ℤ) (σ : State) → is_next f ≡ false
-    → bind (go_on f more σ) K ≡ K f σ
+    → bind (go_on more f σ) K ≡ K f σ
 stop_in Next more K σ h = absurd (cc)
 stop_in Broke more K σ h = refl
 stop_in Again more K σ h = refl
@@ -71,7 +72,7 @@ module _ (ρ : Running) (κ : Standing) (s t : Seen) where
   parts_stop items h = stop_in s.flow (run_items ρ c κ items) k s.state h
 
   abbrev parts : Items → Flow → Res ℤ
-  parts items f = bind (go_on f (run_items ρ c κ items) s.state) k
+  parts items f = bind (go_on (run_items ρ c κ items) f s.state) k
 
   pub parts_end : (xs : List m.Item) → length xs ≡ 0 → is_next s.flow ≡ true
       → with_item ρ (Parts κ (view_items xs)) s ≡ meant ρ s
@@ -99,7 +100,7 @@ module _ (ρ : Running) (κ : Standing) (s t : Seen) where
   unfolding with_item meant
   parts_statement x more h same =
       ap (parts (AndStatement x more)) (next_is s.flow h)
-      ∙ then_one {A = Flow} {B = Flow} (run ρ c κ x s.state) (λ f. go_on f (run_items ρ c κ more)) k
+      ∙ then_one {A = Flow} {B = Flow} (run ρ c κ x s.state) (λ f. go_on (run_items ρ c κ more) f) k
       ∙ ap (meant ρ) (sym same)
 
   pub cases_stop : (items : SwitchItems) → is_next s.flow ≡ false → with_item ρ (Cases κ items) s ≡ meant ρ s
@@ -107,7 +108,7 @@ module _ (ρ : Running) (κ : Standing) (s t : Seen) where
   cases_stop items h = stop_in s.flow (run_switch ρ c κ items) k s.state h
 
   abbrev cases : SwitchItems → Flow → Res ℤ
-  cases items f = bind (go_on f (run_switch ρ c κ items) s.state) k
+  cases items f = bind (go_on (run_switch ρ c κ items) f s.state) k
 
   pub cases_end : (xs : List w.SwitchItem) → length xs ≡ 0 → is_next s.flow ≡ true
       → with_item ρ (Cases κ (view_switch_items xs)) s ≡ meant ρ s
@@ -133,7 +134,7 @@ module _ (ρ : Running) (κ : Standing) (s t : Seen) where
   unfolding with_item meant
   cases_statement x more h same =
       ap (cases (AndSwitchStatement x more)) (next_is s.flow h)
-      ∙ then_one {A = Flow} {B = Flow} (run ρ c κ x s.state) (λ f. go_on f (run_switch ρ c κ more)) k
+      ∙ then_one {A = Flow} {B = Flow} (run ρ c κ x s.state) (λ f. go_on (run_switch ρ c κ more) f) k
       ∙ ap (meant ρ) (sym same)
 
   -- ---- loops
@@ -151,7 +152,7 @@ module _ (ρ : Running) (κ : Standing) (s t : Seen) where
   do_goes at kind body test is same =
       ap (λ x. with_item ρ (this at x) s) is
       ∙ then_one {A = Flow} {B = Flow} (run ρ c κ body s.state)
-      (λ f. turn_on f (give Next >> turned ρ c κ (tree.DoWhile body test) ρ.thread.budget)) k
+      (λ f. turn_on (give Next >> turned ρ c κ (tree.DoWhile body test) ρ.thread.budget) f) k
       ∙ ap (λ x. meant ρ (more_works (Run κ body ∷ Around κ x ρ.thread.budget ∷ []) s)) (sym is)
       ∙ ap (meant ρ) (sym same)
 
@@ -208,10 +209,10 @@ module _ (ρ : Running) (κ : Standing) (s t : Seen) where
   test_goes kind n z =
       ap (test kind n) z
       ∙ then_one {A = Flow} {B = Flow} (body_of ρ c κ kind s.state)
-      (λ f. turn_on f (aside ρ c κ (step_in kind) >> turned ρ c κ kind n)) kr
+      (λ f. turn_on (aside ρ c κ (step_in kind) >> turned ρ c κ kind n) f) kr
 
   abbrev round : tree.StatementKind → ℕ → Flow → Res ℤ
-  round kind n f = bind (turn_on f (aside ρ c κ (step_in kind) >> turned ρ c κ kind n) s.state) k
+  round kind n f = bind (turn_on (aside ρ c κ (step_in kind) >> turned ρ c κ kind n) f s.state) k
 
   pub round_gives : (kind : tree.StatementKind) (n : ℕ) (v : Given) → s.flow ≡ Gave v
       → with_item ρ (Around κ kind n) s ≡ meant ρ s

@@ -32,10 +32,10 @@ use Rattle.thread_steps.specs.declared.cast.CastTo.TheVariants as to
 use Rattle.thread_steps.specs.Values.{number, truth_value}
 use Rattle.source_meaning.specs.Types.{target_of, integer_of, is_strict, conversion, conversions}
 use Rattle.source_meaning.specs.Types.{parameter_conversion, promotion, cell_kind, elements_of, member_offset}
-use Rattle.source_meaning.specs.Types.{target_offset}
 use Rattle.source_meaning.specs.Running.{shared_object, parameters_of}
-use Rattle.source_meaning.specs.Expressions.{no_value, type_of, types_of, inner_place_in, dimension}
-use Rattle.source_meaning.specs.Expressions.{format_of, is_printf, is_lvalue, allocated_shape}
+use Rattle.source_meaning.specs.Expressions.{no_value, type_of, types_of, inner_place, dimension}
+use Rattle.source_meaning.specs.layer.Parts.{is_lvalue, is_printf, target_offset}
+use Rattle.source_meaning.specs.Expressions.{format_of, allocated_shape}
 use Rattle.stack_code.specs.declared.instruction.StackWork.{StackWork}
 use Rattle.stack_code.specs.declared.instruction.StackWork.TheVariants as stack
 use Rattle.stack_code.specs.declared.instruction.ValueWork.{ValueWork}
@@ -273,7 +273,8 @@ module _ (ς : Source) where
     abbrev mutual
       -- The code of the value of an expression (C99 6.5).
       pub value_code : Expr → List Instr
-      value_code (Is at attr kind) = given_code at attr kind ++ value_in_code strict (inner_place_in at kind) attr
+      value_code (Is at attr kind) = given_code at attr kind ++ value_in_code strict
+          (inner_place (Is at attr kind)) attr
 
       -- The code of the place of the object that an expression names (C99 6.3.2.1).
       pub address_code : Expr → List Instr
@@ -312,7 +313,7 @@ module _ (ς : Source) where
       given_code at attr (Member a index) =
           address_code a ++ (makes at (make.Member (member_offset ς.structs (type_of a) index)) ∷ [])
       given_code at attr (MemberBehind a index) =
-          value_code a ++ (makes at (make.Member (target_offset ς.structs (target_of (type_of a)) index)) ∷ [])
+          value_code a ++ (makes at (make.Member (target_offset ς.structs index (target_of (type_of a)))) ∷ [])
       -- ++ and -- (C99 6.5.2.4, 6.5.3.1)
       given_code at attr (Step o a) = address_code a ++ step_code strict at o (type_of a)
       -- & and * (C99 6.5.3.2)
@@ -382,7 +383,7 @@ module _ (ς : Source) where
       pub dropped_code : Expr → (given : List Instr) → List Instr
       dropped_code (Is at attr kind) given =
           if is_lvalue attr.form
-          then given ++ popped_code at (held_code strict (inner_place_in at kind) attr.ctype)
+          then given ++ popped_code at (held_code strict (inner_place (Is at attr kind)) attr.ctype)
           else dropped_kind_code at attr kind given
 
       -- The code of an expression for what it does alone, from the code of what it gives; nothing is read.

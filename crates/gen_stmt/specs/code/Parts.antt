@@ -7,7 +7,7 @@ use Rattle.typed_tree.specs.Tree.{NoSwitchItems, AndCase, AndDefault, AndSwitchS
 use Rattle.source_meaning.specs.Types.{integer_of}
 use Rattle.source_meaning.specs.Expressions.{type_of}
 use Rattle.source_meaning.specs.Statements.{Standing, shapes_of, objects_in}
-use Rattle.source_meaning.specs.Threads.{shapes_in}
+use Rattle.source_meaning.specs.layer.Parts.{shapes_in}
 use Rattle.stack_code.specs.declared.instruction.StackWork.TheVariants as stack
 use Rattle.stack_code.specs.declared.instruction.Jump.TheVariants as jump
 use Rattle.stack_code.specs.declared.instruction.ThreadWork.TheVariants as thread

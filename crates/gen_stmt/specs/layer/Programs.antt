@@ -7,9 +7,9 @@ use Rattle.upc_types.specs.Types.{CType}
 use Rattle.typed_tree.specs.Tree.{Statement, Stands, Block, Items, Function}
 use Rattle.typed_tree.specs.Programs.{Checked, start_of}
 use Rattle.source_meaning.specs.Types.{cell_kind, is_strict}
-use Rattle.source_meaning.specs.layer.Parts.{is_main}
+use Rattle.source_meaning.specs.layer.Parts.{is_main, shapes_in}
 use Rattle.source_meaning.specs.Running.{running}
-use Rattle.source_meaning.specs.Threads.{blank_of, main_of, main_place, in_body, shapes_in}
+use Rattle.source_meaning.specs.Threads.{main_of, main_place, in_body, blank_of}
 use Rattle.stack_code.specs.declared.instruction.CellAccess.{CellAccess}
 use Rattle.stack_code.specs.declared.instruction.CallWork.TheVariants as call
 use Rattle.stack_code.specs.declared.instruction.ThreadWork.TheVariants as thread

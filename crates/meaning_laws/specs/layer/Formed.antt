@@ -20,7 +20,8 @@ use Rattle.typed_tree.specs.Tree.{Cast, Binary, And, Or, Assign, Compound, Condi
 use Rattle.typed_tree.specs.Tree.{AndExpr, attr_of, Function}
 use Rattle.source_meaning.specs.Types.{cell_kind}
 use Rattle.source_meaning.specs.Running.{Running}
-use Rattle.source_meaning.specs.Expressions.{Calls, is_lvalue}
+use Rattle.source_meaning.specs.Expressions.{Calls}
+use Rattle.source_meaning.specs.layer.Parts.{is_lvalue}
 use Rattle.meaning_laws.specs.layer.Values.{FitsCell, IsOf, IsFormedType, Brings}
 
 -- An object lies where its type says: among the shared ones exactly where it is shared (UPC 6.5.1).

@@ -14,7 +14,7 @@ use Rattle.typing_rules.specs.Nodes.{Attr}
 use Rattle.private_store.specs.declared.frame.Call.{Call}
 use Rattle.private_store.specs.Live.{Live, Thing}
 use Rattle.thread_steps.specs.States.{State, Res, Val, Over, Unfinished, Doing}
-use Rattle.source_meaning.specs.Expressions.{is_lvalue}
+use Rattle.source_meaning.specs.layer.Parts.{is_lvalue}
 
 -- ---- values
 

@@ -32,7 +32,8 @@ use Rattle.thread_steps.specs.Library.{is_formed}
 use Rattle.source_meaning.specs.Types.{cell_kind, conversion, parameter_conversion, promotion, target_of, integer_of}
 use Rattle.source_meaning.specs.Running.{Running, parameters_of}
 use Rattle.source_meaning.specs.Expressions.{type_of, types_of, value, address, binary, converted_to, step_operator}
-use Rattle.source_meaning.specs.Expressions.{arguments, allocated_shape, is_printf}
+use Rattle.source_meaning.specs.layer.Parts.{is_printf}
+use Rattle.source_meaning.specs.Expressions.{arguments, allocated_shape}
 use Rattle.source_meaning.specs.Laws.{Gives}
 use Rattle.source_meaning.specs.Statements.{element_type}
 use Rattle.source_meaning.specs.Threads.{called}

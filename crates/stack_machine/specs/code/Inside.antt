@@ -24,7 +24,8 @@ use Rattle.thread_steps.specs.States.{Thread, bind, give}
 use Rattle.thread_steps.specs.Values.{kept, scalar_of}
 use Rattle.thread_steps.specs.Actions.{is_controlled}
 use Rattle.thread_steps.specs.Accesses.{run}
-use Rattle.thread_steps.specs.Library.{private_shapes, is_exit, is_formed}
+use Rattle.thread_steps.specs.Library.{is_formed}
+use Rattle.thread_steps.specs.layer.Parts.{private_shapes, is_exit}
 use Rattle.stack_code.specs.declared.instruction.ThreadWork.TheVariants.{Library}
 use Rattle.stack_code.specs.declared.instruction.Operation.TheVariants.{Thread as Among}
 use Rattle.stack_code.specs.layer.Codes.{Codes, thread_of, function_at}

@@ -17,7 +17,7 @@ use Rattle.upc_values.specs.Expansion.{Expansion, Gives, Fails}
 use Rattle.thread_steps.specs.declared.cast.CastTo.{CastTo}
 use Rattle.thread_steps.specs.declared.cast.CastTo.TheVariants as to
 use Rattle.thread_steps.specs.Values.{number, number_of}
-use Rattle.thread_steps.specs.Pointers.{outside}
+use Rattle.thread_steps.specs.layer.Parts.{outside}
 
 -- A number as a value, or the same run error.
 abbrev pub number_value : Result ℤ ℕ → Result Value ℕ

@@ -13,7 +13,8 @@ use Rattle.thread_steps.specs.Actions.{meet}
 use Rattle.thread_steps.specs.Accesses.{run}
 use Rattle.thread_steps.specs.Library.{library, print}
 use Rattle.source_meaning.specs.Running.{Running}
-use Rattle.source_meaning.specs.Expressions.{format_of, is_printf, allocated_shape}
+use Rattle.source_meaning.specs.Expressions.{format_of, allocated_shape}
+use Rattle.source_meaning.specs.layer.Parts.{is_printf}
 
 -- A call of the library, step by step, whose scalar is given as a value (C99 7.19.6.3, UPC 7).
 abbrev pub expanded_to : Thread → Place → Expansion Scalar → Doing Value

@@ -14,9 +14,10 @@ use Rattle.thread_steps.specs.States.{Doing, ◌>>=◌, ◌>>◌, give}
 use Rattle.thread_steps.specs.Values.{number, number_of}
 use Rattle.thread_steps.specs.Pointers.{member}
 use Rattle.thread_steps.specs.Operators.{cast}
-use Rattle.source_meaning.specs.Types.{target_of, integer_of, conversion, member_offset, target_offset}
+use Rattle.source_meaning.specs.Types.{target_of, integer_of, conversion, member_offset}
 use Rattle.source_meaning.specs.Running.{Running}
-use Rattle.source_meaning.specs.Expressions.{within_row, behind, unary, binary, held, put, step_operator, step_value}
+use Rattle.source_meaning.specs.Expressions.{behind, unary, binary, held, put, step_operator}
+use Rattle.source_meaning.specs.layer.Parts.{step_value, within_row, target_offset}
 use Rattle.source_meaning.specs.Expressions.{type_of, dimension}
 
 module _ (ρ : Running) where
@@ -24,7 +25,7 @@ module _ (ρ : Running) where
   abbrev pub subscript : Place → CType → Option ℕ → Value → ℤ → Doing Value
   subscript at t count p i = do
     q ← behind ρ at t p i
-    within_row at count p i
+    within_row at p i count
     give q
 
   -- A value, converted, becomes that of the object at a place, and is given (C99 6.5.16.1).
@@ -47,7 +48,7 @@ module _ (ρ : Running) where
     v ← held ρ strict at t p
     w ← binary ρ at (step_operator ρ o) t int v (number (pos 1))
     u ← put_cast strict at (conversion t t) at t p w
-    give (step_value ρ o v u)
+    give (step_value v u o)
 
   -- What the operator of an expression of this kind gives, where its operands have these values; one operand is the
   -- second (C99 6.5).
@@ -57,7 +58,7 @@ module _ (ρ : Running) where
   operated_by strict at attr (tree.Member a index) x p =
       member ρ.thread (member_offset ρ.structs (type_of a) index) at p
   operated_by strict at attr (tree.MemberBehind a index) x p =
-      member ρ.thread (target_offset ρ.structs (target_of (type_of a)) index) at p
+      member ρ.thread (target_offset ρ.structs index (target_of (type_of a))) at p
   operated_by strict at attr (tree.Step o a) x p = step strict at o (type_of a) p
   operated_by strict at attr (tree.Unary o a) x v = unary at o (integer_of (type_of a)) v
   operated_by strict at attr (tree.Cast a) x v = cast ρ.thread (conversion (type_of a) attr.ctype) at v

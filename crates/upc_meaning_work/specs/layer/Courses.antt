@@ -13,7 +13,8 @@ use Rattle.thread_steps.specs.States.{State, Res, ◌>>=◌, ◌>>◌, give}
 use Rattle.thread_steps.specs.Blocks.{end_call}
 use Rattle.source_meaning.specs.Running.{Running}
 use Rattle.source_meaning.specs.Statements as pure
-use Rattle.source_meaning.specs.Threads.{called, course_from, function, main_on}
+use Rattle.source_meaning.specs.Threads.{called, function}
+use Rattle.source_meaning.specs.layer.Parts.{course_from, main_on}
 use Rattle.upc_meaning_work.specs.layer.Seen.{Seen}
 use Rattle.upc_meaning_work.specs.layer.Left.{left}
 

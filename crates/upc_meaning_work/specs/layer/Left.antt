@@ -18,12 +18,12 @@ use Rattle.thread_steps.specs.States.{Doing, ◌>>=◌, ◌>>◌, give, choose}
 use Rattle.thread_steps.specs.Values.{number, number_of, truth_value, is_zero}
 use Rattle.thread_steps.specs.Operators.{cast}
 use Rattle.source_meaning.specs.Running.{Running}
-use Rattle.source_meaning.specs.layer.Parts.{given_by}
+use Rattle.source_meaning.specs.layer.Parts.{given_by, value_in, Does, caught, turn_on, go_on}
 use Rattle.source_meaning.specs.Expressions.{Calls, no_value}
-use Rattle.source_meaning.specs.Expressions.{value_in, put}
+use Rattle.source_meaning.specs.Expressions.{put}
 use Rattle.source_meaning.specs.Expressions.{converted_to, truth_after, value, address}
 use Rattle.source_meaning.specs.Expressions.{arguments, last}
-use Rattle.source_meaning.specs.Statements.{Flow, Next, Gave, Does, Standing, go_on, turn_on, caught, finished, turns}
+use Rattle.source_meaning.specs.Statements.{Flow, Next, Gave, Standing, finished, turns}
 use Rattle.source_meaning.specs.Statements.{around, controlling, synchronised, aside, tested, guarded}
 use Rattle.source_meaning.specs.Statements.{listed, declared, run, run_last, run_arms, run_items, run_switch}
 use Rattle.source_meaning.specs.Statements.{from_case, from_default}
@@ -151,8 +151,8 @@ module _ (ρ : Running) where
   does (Last strict parts) k n f vs = last ρ (called ρ n) strict (top vs) parts >>= (λ v. k n f (v ∷ rest vs))
   does Drop k n f vs = k n f (rest vs)
   does (Run κ s) k n f vs = run ρ (called ρ n) κ s >>= (λ g. k n g vs)
-  does (Parts κ items) k n f vs = go_on f (run_items ρ (called ρ n) κ items) >>= (λ g. k n g vs)
-  does (Cases κ items) k n f vs = go_on f (run_switch ρ (called ρ n) κ items) >>= (λ g. k n g vs)
+  does (Parts κ items) k n f vs = go_on (run_items ρ (called ρ n) κ items) f >>= (λ g. k n g vs)
+  does (Cases κ items) k n f vs = go_on (run_switch ρ (called ρ n) κ items) f >>= (λ g. k n g vs)
   does (Select κ kind items) k n f vs =
       from_case ρ (called ρ n) κ (label_kind kind (number_of (top vs))) items
       (from_default ρ (called ρ n) κ items)
@@ -166,7 +166,7 @@ module _ (ρ : Running) where
       (turned (called ρ n) κ kind turns))
       >>= (λ g. k n g (rest vs))
   does (Around κ kind turns) k n f vs =
-      turn_on f (aside ρ (called ρ n) κ (step_in kind) >> turned (called ρ n) κ kind turns) >>= (λ g. k n g vs)
+      turn_on (aside ρ (called ρ n) κ (step_in kind) >> turned (called ρ n) κ kind turns) f >>= (λ g. k n g vs)
   does (Mine at) k n f vs = mine ρ.thread at (top vs) >>= (λ v. k n f (v ∷ rest vs))
   does (Guard κ body) k n f vs =
       choose (is_zero (top vs)) (give Next) (controlling ρ (run ρ (called ρ n) κ body)) >>= (λ g. k n g (rest vs))

@@ -3,7 +3,8 @@ use Rattle.std.specs.Prelude.{Err, ℤ}
 use Rattle.std.proofs.Math.Facts.{to_z-of_z}
 use Rattle.upc_values.specs.declared.scalar.Value.{Value}
 use Rattle.thread_steps.specs.Actions as pure
-use Rattle.thread_steps.specs.Library.{library, first_number}
+use Rattle.thread_steps.specs.Library.{library}
+use Rattle.thread_steps.specs.layer.Parts.{first_number}
 use Rattle.stack_code.specs.layer.Codes.{thread_of}
 use Rattle.stack_machine.specs.code.Turns.{Came, state_seen}
 use Rattle.stack_machine.proofs.Arrivals.{err_then}

@@ -2,7 +2,7 @@ use Rattle.std.proofs.Common.{refl, sym, ap, ◌∙◌, subst, drop, ◌∷◌, 
 use Rattle.upc_values.specs.declared.scalar.Value.{Value}
 use Rattle.thread_steps.specs.layer.Ranges.{IsHeld}
 use Rattle.thread_steps.specs.States.{Res}
-use Rattle.thread_steps.specs.Library.{private_shapes}
+use Rattle.thread_steps.specs.layer.Parts.{private_shapes}
 use Rattle.stack_code.specs.layer.Codes.{thread_of}
 use Rattle.stack_code.specs.layer.Steps.{At, conf_of, youngest}
 use Rattle.stack_machine.specs.code.Kept.{AreHeld}

@@ -4,7 +4,7 @@ use Rattle.typing_rules.specs.Nodes.{view_attr}
 use Rattle.typed_tree.specs.declared.tree.Target.TheVariants.{Library}
 use Rattle.typed_tree.specs.Tree.{Call, exprs_of}
 use Rattle.typed_tree.specs.ViewTree.{view_expr, view_kind}
-use Rattle.source_meaning.specs.Expressions.{is_printf}
+use Rattle.source_meaning.specs.layer.Parts.{is_printf}
 use Rattle.upc_meaning_settings.specs.layer.Settings.{running_seen}
 use Rattle.upc_meaning_work.proofs.Branches.{printf_none}
 use Rattle.upc_meaning_work.specs.layer.Evaluations.{seen}
