@@ -5,7 +5,7 @@ use Rattle.std.proofs.Common.{Some, None, is_some, refl, sym, ap, ◌∙◌, sub
 use Rattle.std.specs.Prelude.{int_le, unsigned_abs}
 use Rattle.std.specs.List.{list_any}
 use Rattle.std.proofs.Math.Nat.{mul-le-mul_left, div-le_of_le-mul, div-zero}
-use Rattle.std.proofs.lemmas.Bool.{false≢true, and_parts, and_from, ltb-true, leb-true}
+use Rattle.std.proofs.lemmas.Bool.{false≢true, and_parts, and_from, ltb-true, lt-ltb, leb-true}
 use Rattle.upc_values.specs.Lists.{Each}
 use Rattle.upc_types.specs.declared.layout.Known.{Known}
 use Rattle.upc_types.specs.declared.layout.Layout.{Layout}
@@ -99,8 +99,7 @@ chosen_some true n h = h
 chosen_some false n h = refl
 
 value_some : (v : ℤ) → int_le (pos 1) v ≡ true → nat_lt 0 (unsigned_abs v) ≡ true
-value_some (pos zero) h = absurd (false≢true h)
-value_some (pos (suc n)) h = refl
+value_some (pos n) h = let some = leb-true 1 n h in lt-ltb 0 n (omega (arith, some))
 value_some (negsuc n) h = absurd (false≢true h)
 
 -- An array has an element at least.
