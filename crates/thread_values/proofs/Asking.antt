@@ -2,10 +2,13 @@
 use Rattle.std.proofs.Common.{◌≡◌, ℕ, pos, List, Option, Some, true, false, refl, ap, ◌∙◌}
 use Rattle.std.specs.Prelude.{Result, Ok, Err, is_some}
 use Rattle.upc_text.specs.declared.place.Place.{Place}
+use Rattle.block_layout.specs.declared.kind.Kind.TheVariants as kind
 use Rattle.block_layout.specs.declared.kind.Shape.{Shape}
+use Rattle.integers.specs.Integers.{converted}
 use Rattle.integers.specs.Operators.{truth}
 use Rattle.upc_values.specs.declared.action.Reply.{Reply}
 use Rattle.upc_values.specs.declared.action.Reply.TheVariants as reply
+use Rattle.upc_values.specs.declared.scalar.Scalar.TheVariants.{Int}
 use Rattle.upc_values.specs.declared.scalar.Value.{Value}
 use Rattle.upc_values.specs.declared.scalar.Value.TheVariants as value
 use Rattle.upc_values.specs.declared.library.LibraryCall.{LibraryCall}
@@ -32,7 +35,8 @@ gives τ at σ reply.Done res e =
 gives τ at σ (reply.Value v) res e =
     let same : Ok (value.Scalar v) ≡ res = cc in ap (λ (x : Result Value ℕ). valued at x σ) same
 gives τ at σ (reply.Flag b) res e =
-    let same : Ok (value.Scalar (Int (converted kind.Int (truth b)))) ≡ res = cc in ap (λ (x : Result Value ℕ). valued at x σ) same
+    let same : Ok (value.Scalar (Int (converted kind.Int (truth b)))) ≡ res = cc in
+    ap (λ (x : Result Value ℕ). valued at x σ) same
 gives τ at σ (reply.Refused code) res e =
     let same : Err code ≡ res = cc in ap (λ (x : Result Value ℕ). valued at x σ) same
 
