@@ -28,7 +28,7 @@ use Rattle.typed_tree.specs.ViewTree.{view_kind, view_row, view_expr}
 use Rattle.typed_tree.specs.ViewStatements.{view_initial, view_object, view_value, view_affinity, view_head}
 use Rattle.typed_tree.specs.ViewStatements.{view_statement_kind, view_held, view_arm_row, view_item_row, view_item}
 use Rattle.typed_tree.specs.ViewStatements.{view_switch_row, view_switch_item, view_function}
-use Rattle.gen_stmt_laws.specs.code.Throughout as t
+use Rattle.meaning_laws_accepted.specs.layer.Throughout as t
 
 -- What an expression is as a constant is a value of an integer kind, where it is a number.
 abbrev pub IsConstant : Attr → tree.ExprKind → Type 0

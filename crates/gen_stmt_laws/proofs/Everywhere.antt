@@ -21,7 +21,7 @@ use Rattle.typed_tree.specs.layer.TypedNodes.{MeetsExpr, MeetsKind, MeetsExprs, 
 use Rattle.typed_tree.specs.layer.TypedNodes.{MeetsObjects, MeetsHead, MeetsAffinity, MeetsStatement, MeetsBy}
 use Rattle.typed_tree.specs.layer.TypedNodes.{MeetsLast, MeetsArms, MeetsItems, MeetsSwitch, MeetsFunction}
 use Rattle.typed_tree.specs.layer.TypedNodes.{behind, behind_all, around}
-use Rattle.gen_stmt_laws.specs.code.Throughout as t
+use Rattle.meaning_laws_accepted.specs.layer.Throughout as t
 
 module _ (program : Checked) (P Q : Attr → ExprKind → Type 0)
     (gives : (locals : List CType) (how : Use) (attr : Attr) (kind : ExprKind)

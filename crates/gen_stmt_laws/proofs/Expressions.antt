@@ -46,7 +46,7 @@ use Rattle.meaning_laws.specs.layer.Formed.{MakesSized, IsFormed, HasFormedParts
 use Rattle.meaning_laws.specs.layer.FormedStatements.{IsFormedFunction}
 use Rattle.meaning_laws.specs.layer.Values.{IsFormedType}
 use Rattle.gen_stmt_laws.specs.code.Fitting.{AreFine, IsRanged, HasFormedTypes}
-use Rattle.gen_stmt_laws.specs.code.Throughout.{Throughout, ThroughoutParts, ThroughoutAll}
+use Rattle.meaning_laws_accepted.specs.layer.Throughout.{Throughout, ThroughoutParts, ThroughoutAll}
 use Rattle.gen_stmt_laws.proofs.Conversions.{IsIntegerOf, integer_is, promoted_is, operate_fits, formed_fits}
 use Rattle.gen_stmt_laws.proofs.Conversions.{conversions_fit, parameters_fit, promotions_fit}
 use Rattle.gen_stmt_laws.proofs.Moves.{IsFew, MovesFew, binary_moves, compound_moves, step_moves, subscript_moves}

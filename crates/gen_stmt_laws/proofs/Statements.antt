@@ -58,7 +58,7 @@ use Rattle.meaning_laws.specs.layer.FormedStatements.{IsFormedLast, AreFormedArm
 use Rattle.meaning_laws.specs.layer.FormedStatements.{IsFormedFunction}
 use Rattle.meaning_laws.specs.layer.Values.{HasIntegerKind}
 use Rattle.gen_stmt_laws.specs.code.Fitting.{AreFine, IsRanged, HasFormedTypes}
-use Rattle.gen_stmt_laws.specs.code.Throughout as t
+use Rattle.meaning_laws_accepted.specs.layer.Throughout as t
 use Rattle.gen_stmt_laws.proofs.Conversions.{IsIntegerOf, integer_is, promoted_integer, conversion_fits}
 use Rattle.gen_stmt_laws.proofs.Expressions as e
 use Rattle.gen_stmt_laws.proofs.Moves.{IsFew}

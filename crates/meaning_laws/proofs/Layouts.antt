@@ -57,9 +57,9 @@ known_later i k (Before x older fresh rest) h = known_later i k rest (by (x.numb
     by false q = let same : known_in (x ∷ older) i ≡ known_in older i = rw q refl in same ∙ h
 
 -- A type is complete, and has this layout.
-record IsOfLayout (cs : List Completed) (b : Base) (l : Layout) : Type 0 where
-  complete : base_complete (complete_in cs) b ≡ true
-  layout : base_layout (layout_in cs) b ≡ l
+pub record IsOfLayout (cs : List Completed) (b : Base) (l : Layout) : Type 0 where
+  pub complete : base_complete (complete_in cs) b ≡ true
+  pub layout : base_layout (layout_in cs) b ≡ l
 
 struct_later : (o p : Option Known) → ((k : Known) → o ≡ Some k → p ≡ Some k) → is_some o ≡ true
     → (is_some p ≡ true) × (layout_or_none p ≡ layout_or_none o)
@@ -67,7 +67,7 @@ struct_later (Some k) p f h = let same = f k refl in (ap is_some same, ap layout
 struct_later None p f h = absurd (false≢true h)
 
 -- What is complete at an earlier place is so at the end, with the same layout.
-complete_later : (all older : List Completed) → Earlier all older → (b : Base)
+pub complete_later : (all older : List Completed) → Earlier all older → (b : Base)
     → base_complete (complete_in older) b ≡ true → IsOfLayout all b (base_layout (layout_in older) b)
 complete_later all older place types.Void h = absurd (false≢true h)
 complete_later all older place (types.Integer k) h = record { complete = refl; layout = refl }
@@ -105,7 +105,7 @@ module _ (cs : List Completed) where
   leaf_complete (types.Pointer t) h = (refl, omega arith)
   leaf_complete types.LockObject h = absurd (false≢true h)
 
-some_if : {X : Type 0} (b : Bool) (x : X) → b ≡ true → is_some (if b then Some x else None) ≡ true
+pub some_if : {X : Type 0} (b : Bool) (x : X) → b ≡ true → is_some (if b then Some x else None) ≡ true
 some_if true x h = refl
 some_if false x h = absurd (false≢true h)
 
@@ -114,7 +114,7 @@ if_some true x h = refl
 if_some false x h = absurd (false≢true h)
 
 -- What has a size where a node stands has leaf elements with a layout.
-size_laid : (program : Checked) (σ : Structs) (t : CType) → Earlier program.structs.completed σ.completed
+pub size_laid : (program : Checked) (σ : Structs) (t : CType) → Earlier program.structs.completed σ.completed
     → has_size σ t ≡ true → IsLaid program t
 size_laid program σ t place h =
     let b = base_of t in

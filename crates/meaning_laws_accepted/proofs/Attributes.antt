@@ -34,7 +34,8 @@ use Rattle.typing_rules.specs.Rules.{casts, is_scalar, names_member}
 use Rattle.source_meaning.specs.Expressions as e
 use Rattle.meaning_laws.proofs.Rules.{unbroken, holds, fails, or_left, or_right}
 use Rattle.meaning_laws.proofs.Taken.{stuck}
-use Rattle.meaning_laws_accepted.proofs.Types.{IsDeep, IsSoundType, IsNamed, sound_deep, deep_sound, deep_array}
+use Rattle.meaning_laws_accepted.proofs.Types.{IsTarget, IsSoundType, IsNamed, no_block, sound_deep, deep_sound}
+use Rattle.meaning_laws_accepted.proofs.Types.{deep_array, deep_pointer}
 use Rattle.meaning_laws_accepted.proofs.Types.{pointer_deep, no_rows, value_sound, value_rows, value_struct}
 use Rattle.meaning_laws_accepted.proofs.Types.{LeadsToSound, LeadsToDeep, target_sound, target_deep, member_sound}
 use Rattle.meaning_laws_accepted.proofs.Types.{member_rows}
@@ -68,12 +69,14 @@ plain_sound how t f c h r s = record {
 -- A number.
 pub number_sound : (how : Use) (k : Kind) (f : Form) (c : Constant) → IsInteger k
     → Sound how (record { ctype = plain k; form = f; constant = c })
-number_sound how k f c h = record { sound = h; rows = λ q. refl; struct = λ q. absurd (false≢true q) }
+number_sound how k f c h =
+    record { sound = (h, no_block); rows = λ q. refl; struct = λ q. absurd (false≢true q) }
 
 -- A pointer.
-pub pointer_sound : (how : Use) (t : CType) (f : Form) (c : Constant) → IsDeep (types.Pointer t)
+pub pointer_sound : (how : Use) (t : CType) (f : Form) (c : Constant) → IsTarget t
     → Sound how (record { ctype = plainly (types.Pointer t); form = f; constant = c })
-pointer_sound how t f c h = record { sound = h; rows = λ q. refl; struct = λ q. absurd (false≢true q) }
+pointer_sound how t f c h =
+    record { sound = (h, no_block); rows = λ q. refl; struct = λ q. absurd (false≢true q) }
 
 -- A place.
 pub place_sound : (how : Use) (t : CType) (at c : Constant) → IsSoundType t
@@ -137,11 +140,11 @@ subscript_sound φ how a i h none =
 
 deep_leads : (o : Option CType) → LeadsToDeep o → LeadsToSound o
 deep_leads None h = tt
-deep_leads (Some (Qualified b c s x)) h = λ l. deep_sound s b h l
+deep_leads (Some (Qualified b c s x)) h = λ l. (deep_sound s b h.0 l, h.1)
 
 deep_free : (o : Option CType) → LeadsToDeep o → RowFree o
 deep_free None h = tt
-deep_free (Some u) h = no_rows (base_of u) (deep_array (base_of u) h)
+deep_free (Some u) h = no_rows (base_of u) (deep_array (base_of u) (deep_pointer u h))
 
 empty_free : (o : Option CType) → target_is_empty o ≡ false → LockFree o
 empty_free None h = tt
@@ -163,7 +166,7 @@ address_sound φ how a h none =
     let x = n.Address a in
     let array = unbroken (table φ x) 19 (judge 20 (rule_20 x)) refl none in
     let plain = or_right (not (is_lvalue a)) (is_array a.ctype) array in
-    pointer_sound how a.ctype _ _ (pointer_deep a.ctype (sound_deep _ (base_of a.ctype) h.sound plain))
+    pointer_sound how a.ctype _ _ (pointer_deep a.ctype (sound_deep _ (base_of a.ctype) h.sound.0 plain) h.sound.1)
 
 -- ---- members (C99 6.5.2.3)
 
@@ -247,13 +250,13 @@ module _ (φ : Facts) (how : Use) (a b : Attr) where
       (kind_integer (base b))
 
   sum_by : (o p : Option CType) → LeadsToDeep o → LeadsToDeep p → Sound how (sum_attr φ a b o p)
-  sum_by (Some t) p h i = pointer_sound how t _ _ (pointer_deep t h)
-  sum_by None (Some u) h i = pointer_sound how u _ _ (pointer_deep u i)
+  sum_by (Some t) p h i = pointer_sound how t _ _ h
+  sum_by None (Some u) h i = pointer_sound how u _ _ i
   sum_by None None h i = numbers_sound op.Add
 
   difference_by : (o p : Option CType) → LeadsToDeep o → Sound how (difference_attr φ a b o p)
   difference_by (Some t) (Some u) h = number_sound how kind.Long _ _ tt
-  difference_by (Some t) None h = pointer_sound how t _ _ (pointer_deep t h)
+  difference_by (Some t) None h = pointer_sound how t _ _ h
   difference_by None p h = numbers_sound op.Subtract
 
   pub binary_sound : (o : BinOp) → Sound n.Plain a → Sound n.Plain b → Sound how (attr φ (n.Binary o a b))
@@ -351,7 +354,7 @@ cast_from (Qualified b c s x) t zero h = cast_into (value_base b) t zero h
 cast_by : (how : Use) (t : CType) (f : Form) (c : Constant) → IsNamed (base_of t) → IsCast (base_of t)
     → Sound how (record { ctype = value_type t; form = f; constant = c })
 cast_by how (Qualified types.Void d s x) f c h i =
-    record { sound = tt; rows = λ q. refl; struct = λ q. absurd (false≢true q) }
+    record { sound = (tt, no_block); rows = λ q. refl; struct = λ q. absurd (false≢true q) }
 cast_by how (Qualified (types.Integer k) d s x) f c h i = number_sound how k f c h
 cast_by how (Qualified (types.Pointer t) d s x) f c h i = pointer_sound how t f c h
 cast_by how (Qualified (types.Struct m) d s x) f c h i = absurd i

@@ -1,6 +1,7 @@
 -- Expressions, types, members and parameters: what the walk makes of them is formed.
-use Rattle.std.proofs.Common.{◌≡◌, ℕ, nat_lt, Bool, true, false, not, ◌&&◌, ◌||◌, List, [], ◌∷◌, length, Option}
-use Rattle.std.proofs.Common.{Some, None, refl, ap}
+use Rattle.std.proofs.Common.{◌≡◌, ℕ, ◌≤◌, nat_lt, Bool, true, false, not, ◌&&◌, ◌||◌, List, [], ◌∷◌, length}
+use Rattle.std.proofs.Common.{Option, Some, None, refl, sym, ap, subst, arith}
+use Rattle.std.proofs.lemmas.Bool.{false≢true}
 use Rattle.block_layout.specs.declared.kind.Kind.TheVariants as kind
 use Rattle.upc_text.specs.declared.place.Place.{Place}
 use Rattle.upc_tree.specs.declared.span.Name.{Name}
@@ -31,7 +32,8 @@ use Rattle.typed_tree.specs.Tree as typed
 use Rattle.typed_tree.specs.Tree.{Expr, Exprs, attr_of}
 use Rattle.upc_checker_scopes.specs.Walk.{Walk, facts_in}
 use Rattle.upc_checker_scopes.specs.Places.{at}
-use Rattle.upc_checker_types.specs.Specifiers.{Shaped, pointer_to, formed, elements, specifiers_form}
+use Rattle.upc_checker_types.specs.Specifiers.{Specified, Shaped, pointer_to, formed, elements, specifiers_form}
+use Rattle.upc_checker_types.specs.Specifiers.{layout_block}
 use Rattle.upc_checker_types.specs.Shapes.{Specifying, adjusted, named_type}
 use Rattle.upc_checker_types.specs.Members.{Declared, with_parameter, declare_parameter}
 use Rattle.upc_checker_nodes.specs.Parts.{joined, format_in, last_of}
@@ -44,10 +46,12 @@ use Rattle.upc_checker_expressions.specs.Expressions.{walk_sizes, walk_members, 
 use Rattle.upc_checker_expressions.specs.Expressions.{walk_parameters, walk_next_parameters, walk_parameter}
 use Rattle.upc_checker_expressions.specs.Expressions.{walk_array}
 use Rattle.meaning_laws.proofs.Rules.{unbroken, or_right}
-use Rattle.meaning_laws_accepted.proofs.Types.{IsDeep, IsSoundType, IsNamed}
+use Rattle.meaning_laws_accepted.specs.code.LaidPrograms.{IsBlock}
+use Rattle.meaning_laws_accepted.proofs.Types.{IsTarget, IsSoundType, IsNamed, no_block, deep_pointer}
 use Rattle.meaning_laws_accepted.proofs.IntegerKinds.{number_integer}
 use Rattle.meaning_laws_accepted.proofs.Declared.{specified_deep, star_deep, formed_sound, formed_rows, formed_named}
 use Rattle.meaning_laws_accepted.proofs.Declared.{IsRow, plain_row, array_row, adjusted_sound, adjusted_block}
+use Rattle.meaning_laws_accepted.proofs.Declared.{IsHeld, adjusted_held, HasLayouts, both_layouts, size_few}
 use Rattle.meaning_laws_accepted.proofs.Structs.{IsMember}
 use Rattle.meaning_laws_accepted.proofs.Scopes.{StandsFormed, Knows, stands, declare_knows, unnamed_knows}
 use Rattle.meaning_laws_accepted.proofs.Walks.{Keeps, keeps_then, keeps_give, keeps_weaken, keeps_judge, any_judge}
@@ -61,8 +65,13 @@ use Rattle.meaning_laws_accepted.proofs.Nodes.{assign_formed, call_formed}
 
 -- ---- members and parameters
 
+-- What is not shared has no block.
+unshared : (o : Option ℕ) → present o ≡ false → IsBlock o
+unshared None h = no_block
+unshared (Some block) h = absurd (false≢true (sym h))
+
 -- A member that meets its rules is of a type of objects, and no array of arrays.
-member_rules : (φ : Facts) (again : Bool) (threads : ℕ) (s : Shaped) (sizes : List _) → IsDeep (base_of s.ctype)
+member_rules : (φ : Facts) (again : Bool) (threads : ℕ) (s : Shaped) (sizes : List _) → IsTarget s.ctype
     → lowest φ (n.Member again (formed threads s sizes)) ≡ None
     → (name : List ℕ) → IsMember (record { name = name; ctype = (formed threads s sizes).ctype })
 member_rules φ again threads s sizes h none name =
@@ -70,15 +79,21 @@ member_rules φ again threads s sizes h none name =
     let x = n.Member again f in
     let nothing = unbroken (table φ x) 3 (judge 4 (rule_4 x)) refl none in
     let lacks = unbroken (table φ x) 7 (judge 8 (rule_8 φ x)) refl none in
-    let many = or_right again (lacks_members φ.structs f.ctype || nat_lt 1 (length sizes)) lacks in (
-      formed_sound threads s sizes h (or_right (not f.forms) (declares_nothing f.ctype) nothing),
-      formed_rows threads s sizes h (or_right (lacks_members φ.structs f.ctype) (nat_lt 1 (length sizes)) many),
+    let many = or_right again (lacks_members φ.structs f.ctype || nat_lt 1 (length sizes)) lacks in
+    let shared = unbroken (table φ x) 6 (judge 7 (rule_7 x)) refl none in
+    let deep = deep_pointer s.ctype h in (
+      (
+        formed_sound threads s sizes deep (or_right (not f.forms) (declares_nothing f.ctype) nothing),
+        unshared (block_of f.ctype) shared,
+      ),
+      formed_rows threads s sizes deep (or_right (lacks_members φ.structs f.ctype) (nat_lt 1 (length sizes)) many),
     )
 
--- A parameter that meets its rules is of a type of objects, and not shared.
+-- A parameter that meets its rules is of a type of objects, not shared, and no array.
 pub record IsParameter (t : CType) : Type 0 where
   pub sound : IsSoundType (adjusted t)
   pub block : block_of (adjusted t) ≡ None
+  pub held : IsHeld (base_of (adjusted t))
 
 parameter_rules : (φ : Facts) (again : Bool) (f : Formed) → IsRow (base_of f.ctype)
     → lowest φ (n.Parameter again f) ≡ None → IsParameter f.ctype
@@ -86,14 +101,18 @@ parameter_rules φ again f h none =
     let x = n.Parameter again f in
     let nothing = unbroken (table φ x) 3 (judge 4 (rule_4 x)) refl none in
     let shared = unbroken (table φ x) 6 (judge 7 (rule_7 x)) refl none in
+    let something = or_right (not f.forms) (declares_nothing f.ctype) nothing in
+    let block = adjusted_block f.ctype shared in
     record {
-      sound = adjusted_sound f.ctype h (or_right (not f.forms) (declares_nothing f.ctype) nothing);
-      block = adjusted_block f.ctype shared;
+      sound = (adjusted_sound f.ctype h something, subst IsBlock (sym block) no_block);
+      block = block;
+      held = adjusted_held f.ctype something;
     }
 
 -- The parameters so far are of types of objects, and in scope.
 pub record AreParameters (d : Declared) : Type 0 where
   pub types : Each IsSoundType d.types
+  pub held : Each (λ t. IsHeld (base_of t)) d.types
   pub scope : Knows d.scope
 
 parameter_knows : (Γ : Env) (name : Option Name) (t : CType) → IsSoundType t → block_of t ≡ None → Knows Γ
@@ -106,6 +125,7 @@ with_parameters : (before : Declared) (name : Option Name) (t : CType) → IsPar
     → AreParameters (with_parameter before name t)
 with_parameters before name t h i = record {
   types = each-push IsSoundType before.types (adjusted t) i.types h.sound;
+  held = each-push (λ t. IsHeld (base_of t)) before.types (adjusted t) i.held h.held;
   scope = parameter_knows before.scope name (adjusted t) h.sound h.block i.scope;
 }
 
@@ -228,48 +248,56 @@ module _ (ξ : Setting) (σ : Structs) where
     keeps_type Γ place (Typed specs pointers sizes) =
         keeps_then (keeps_to_end ξ _ (keeps_specs Γ _ specs)) (λ p. keeps_then (keeps_pointers Γ _ _ pointers) (λ s.
         keeps_then (keeps_sizes Γ sizes) (λ ns. keeps_give _ (λ i h j.
-        formed_named ξ.threads (named_type (specifiers_form false p) s) ns (h (specified_deep p))))))
+        formed_named ξ.threads (named_type (specifiers_form false p) s) ns
+        (deep_pointer s.ctype (h (specified_deep p j)))))))
 
-    pub keeps_specs : (Γ : Env) (how : Specifying) (x : Specs) → Any (walk_specs ξ Γ how x)
+    pub keeps_specs : (Γ : Env) (how : Specifying) (x : Specs)
+        → Keeps σ.completed (walk_specs ξ Γ how x) (λ p. HasLayouts p.quals)
     keeps_specs Γ how NoSpecs = keeps_give _ tt
     keeps_specs Γ how (AndSpec spec more) =
-        keeps_then (keeps_spec Γ how spec) (λ p. keeps_then (keeps_specs Γ how more) (λ q. keeps_give _ (λ i j. tt)))
+        keeps_then (keeps_spec Γ how spec) (λ p. keeps_then (keeps_specs Γ how more) (λ q. keeps_give _ (λ i j.
+        both_layouts p.quals q.quals j i)))
 
-    keeps_spec : (Γ : Env) (how : Specifying) (x : Spec) → Any (walk_spec ξ Γ how x)
+    keeps_spec : (Γ : Env) (how : Specifying) (x : Spec)
+        → Keeps σ.completed (walk_spec ξ Γ how x) (λ p. HasLayouts p.quals)
     keeps_spec Γ how (WordSpec word span) = keeps_give _ tt
-    keeps_spec Γ how (QualSpec qual) = keeps_then (keeps_qual Γ _ qual) (λ q. keeps_give _ (λ i. tt))
+    keeps_spec Γ how (QualSpec qual) = keeps_then (keeps_qual Γ _ qual) (λ q. keeps_give _ (λ i. i))
     keeps_spec Γ how (TagSpec word tag) = keeps_then (keeps_refer _ Γ _) (λ number. keeps_give _ (λ i. tt))
     keeps_spec Γ how (StructSpec word tag left members right) =
         keeps_then (keeps_refer true Γ tag.number) (λ number.
-        keeps_weaken (keeps_struct ξ (at word) number _ (keeps_weaken (keeps_members Γ [] members) (λ ms h. h tt)))
-        (λ p i j. tt))
+        keeps_weaken (keeps_struct {P = λ (p : Specified). HasLayouts p.quals} ξ (at word) number _ tt
+        (keeps_weaken (keeps_members Γ [] members) (λ ms h. h tt)))
+        (λ p i j. i))
 
-    keeps_quals : (Γ : Env) (star : Bool) (x : Quals) → Any (walk_quals ξ Γ star x)
+    keeps_quals : (Γ : Env) (star : Bool) (x : Quals) → Keeps σ.completed (walk_quals ξ Γ star x) HasLayouts
     keeps_quals Γ star NoQuals = keeps_give _ tt
     keeps_quals Γ star (AndQual qual more) =
-        keeps_then (keeps_qual Γ star qual) (λ p. keeps_then (keeps_quals Γ star more) (λ q. keeps_give _ (λ i j. tt)))
+        keeps_then (keeps_qual Γ star qual) (λ p. keeps_then (keeps_quals Γ star more) (λ q. keeps_give _ (λ i j.
+        both_layouts p q j i)))
 
-    keeps_qual : (Γ : Env) (star : Bool) (x : Qual) → Any (walk_qual ξ Γ star x)
+    keeps_qual : (Γ : Env) (star : Bool) (x : Qual) → Keeps σ.completed (walk_qual ξ Γ star x) HasLayouts
     keeps_qual Γ star (Const word) = keeps_give _ tt
     keeps_qual Γ star (Strict word) = keeps_give _ tt
     keeps_qual Γ star (Relaxed word) = keeps_give _ tt
-    keeps_qual Γ star (Shared word layout) = keeps_then (keeps_layout Γ star layout) (λ l. keeps_give _ (λ i. tt))
+    keeps_qual Γ star (Shared word layout) =
+        keeps_then (keeps_layout Γ star layout) (λ l. keeps_give _ (λ i. (i, tt)))
 
-    keeps_layout : (Γ : Env) (star : Bool) (x : Layout) → Any (walk_layout ξ Γ star x)
-    keeps_layout Γ star NoLayout = keeps_give _ tt
-    keeps_layout Γ star (IndefiniteLayout left right) = keeps_give _ tt
+    keeps_layout : (Γ : Env) (star : Bool) (x : Layout)
+        → Keeps σ.completed (walk_layout ξ Γ star x) (λ l. layout_block l ≤ 16777216)
+    keeps_layout Γ star NoLayout = keeps_give _ (omega arith)
+    keeps_layout Γ star (IndefiniteLayout left right) = keeps_give _ (omega arith)
     keeps_layout Γ star (StarLayout left mark right) =
-        keeps_then (any_judge ξ _ _ (λ s. refl)) (λ u. keeps_give _ (λ i. tt))
+        keeps_then (any_judge ξ _ _ (λ s. refl)) (λ u. keeps_give _ (λ i. omega arith))
     keeps_layout Γ star (BlockLayout left size right) =
         keeps_then (keeps_walk Γ n.Plain size) (λ x. keeps_then (keeps_constantly x) (λ c.
-        keeps_then (any_judge ξ _ _ (λ s. refl)) (λ u. keeps_give _ (λ h i j. tt))))
+        keeps_then (any_judge ξ _ _ (λ s. refl)) (λ u. keeps_give _ (λ h i j. size_few c))))
 
     pub keeps_pointers : (Γ : Env) (star : Bool) (s : Shaped) (x : Pointers)
-        → Keeps σ.completed (walk_pointers ξ Γ star s x) (λ r. IsDeep (base_of s.ctype) → IsDeep (base_of r.ctype))
+        → Keeps σ.completed (walk_pointers ξ Γ star s x) (λ r. IsTarget s.ctype → IsTarget r.ctype)
     keeps_pointers Γ star s NoPointers = keeps_give _ (λ h. h)
     keeps_pointers Γ star s (AndPointer span quals more) =
         keeps_then (keeps_quals Γ _ quals) (λ q. keeps_weaken (keeps_pointers Γ star (pointer_to s q) more)
-        (λ r g i h. g (star_deep s q h)))
+        (λ r g i h. g (star_deep s q i h)))
 
     pub keeps_sizes : (Γ : Env) (x : Dimensions) → Any (walk_sizes ξ Γ x)
     keeps_sizes Γ NoDimensions = keeps_give _ tt
@@ -285,11 +313,11 @@ module _ (ξ : Setting) (σ : Structs) where
         keeps_then (keeps_member Γ _ before first) (λ ms. keeps_then (keeps_next_members Γ _ ms next) (λ all.
         keeps_then (any_judge ξ _ _ (λ s. refl)) (λ u.
         keeps_weaken (keeps_members Γ all more) (λ r g i hn hm j h.
-        g (hn (specified_deep p) (hm (specified_deep p) h)))))))
+        let d = specified_deep p j in g (hn d (hm d h)))))))
 
     keeps_next_members : (Γ : Env) (s : Shaped) (before : List Member) (x : NextDeclarators)
         → Keeps σ.completed (walk_next_members ξ Γ s before x)
-        (λ ms. IsDeep (base_of s.ctype) → Each IsMember before → Each IsMember ms)
+        (λ ms. IsTarget s.ctype → Each IsMember before → Each IsMember ms)
     keeps_next_members Γ s before NoNextDeclarators = keeps_give _ (λ d h. h)
     keeps_next_members Γ s before (AndDeclarator comma declarator more) =
         keeps_then (keeps_member Γ s before declarator) (λ ms. keeps_weaken (keeps_next_members Γ s ms more)
@@ -297,12 +325,12 @@ module _ (ξ : Setting) (σ : Structs) where
 
     keeps_member : (Γ : Env) (s : Shaped) (before : List Member) (x : Declarator)
         → Keeps σ.completed (walk_member ξ Γ s before x)
-        (λ ms. IsDeep (base_of s.ctype) → Each IsMember before → Each IsMember ms)
+        (λ ms. IsTarget s.ctype → Each IsMember before → Each IsMember ms)
     keeps_member Γ s before (ObjectDeclarator pointers name sizes) =
         keeps_then (keeps_pointers Γ _ s pointers) (λ p. keeps_then (keeps_sizes Γ sizes) (λ ns.
-        keeps_then {P = λ u. IsDeep (base_of p.ctype) → (name : List ℕ)
+        keeps_then {P = λ u. IsTarget p.ctype → (name : List ℕ)
         → IsMember (record { name = name; ctype = (formed ξ.threads p ns).ctype })}
-        (keeps_judge ξ _ _ (λ q. refl) (λ q none d. member_rules (facts_in ξ q) _ ξ.threads p ns d none)) (λ u.
+        (keeps_judge ξ _ _ (λ q. refl) (λ q e f none d. member_rules (facts_in ξ q) _ ξ.threads p ns d none)) (λ u.
         keeps_give _ (λ m i g d h. each-push IsMember before _ h (m (g d) (spelling ξ name.number))))))
     keeps_member Γ s before (FunctionDeclarator pointers name parameters) =
         keeps_then (keeps_pointers Γ _ s pointers) (λ p.
@@ -312,11 +340,12 @@ module _ (ξ : Setting) (σ : Structs) where
 
     pub keeps_parameters : (Γ : Env) (x : Parameters)
         → Keeps σ.completed (walk_parameters ξ Γ x) (λ d. Knows Γ → AreParameters d)
-    keeps_parameters Γ (NoParameters left right) = keeps_give _ (λ k. record { types = tt; scope = k })
-    keeps_parameters Γ (VoidParameters left word right) = keeps_give _ (λ k. record { types = tt; scope = k })
+    keeps_parameters Γ (NoParameters left right) = keeps_give _ (λ k. record { types = tt; held = tt; scope = k })
+    keeps_parameters Γ (VoidParameters left word right) =
+        keeps_give _ (λ k. record { types = tt; held = tt; scope = k })
     keeps_parameters Γ (SomeParameters left first more right) =
         keeps_then (keeps_parameter _ first) (λ d. keeps_weaken (keeps_next_parameters d more)
-        (λ r g i k. g (i (record { types = tt; scope = k }))))
+        (λ r g i k. g (i (record { types = tt; held = tt; scope = k }))))
 
     keeps_next_parameters : (before : Declared) (x : NextParameters)
         → Keeps σ.completed (walk_next_parameters ξ before x) (λ d. AreParameters before → AreParameters d)
@@ -332,12 +361,12 @@ module _ (ξ : Setting) (σ : Structs) where
         keeps_then (keeps_pointers before.scope _ _ pointers) (λ s.
         keeps_then (keeps_array before.scope (named_type _ s) array) (λ f.
         keeps_then {P = λ u. IsRow (base_of f.ctype) → IsParameter f.ctype}
-        (keeps_judge ξ _ _ (λ q. refl) (λ q none d. parameter_rules (facts_in ξ q) _ f d none)) (λ u.
-        keeps_give _ (λ m g d j h. with_parameters before name f.ctype (m (g (d (specified_deep p)))) h)))))
+        (keeps_judge ξ _ _ (λ q. refl) (λ q e i none d. parameter_rules (facts_in ξ q) _ f d none)) (λ u.
+        keeps_give _ (λ m g d j h. with_parameters before name f.ctype (m (g (d (specified_deep p j)))) h)))))
 
     keeps_array : (Γ : Env) (s : Shaped) (x : ParameterArray)
-        → Keeps σ.completed (walk_array ξ Γ s x) (λ f. IsDeep (base_of s.ctype) → IsRow (base_of f.ctype))
-    keeps_array Γ s NoArray = keeps_give _ (λ d. plain_row ξ.threads s d)
+        → Keeps σ.completed (walk_array ξ Γ s x) (λ f. IsTarget s.ctype → IsRow (base_of f.ctype))
+    keeps_array Γ s NoArray = keeps_give _ (λ d. plain_row ξ.threads s (deep_pointer s.ctype d))
     keeps_array Γ s (UnsizedArray left right) = keeps_give _ (λ d. array_row s.ctype 1 d)
     keeps_array Γ s (SizedArray left size right) =
         keeps_then (keeps_walk Γ n.Plain size) (λ x. keeps_then (keeps_constantly x) (λ c.

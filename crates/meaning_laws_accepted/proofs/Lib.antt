@@ -4,6 +4,7 @@ pub mod IntegerKinds
 pub mod Declared
 pub mod Scopes
 pub mod Structs
+pub mod Sizes
 pub mod Walks
 pub mod Attributes
 pub mod Nodes
@@ -11,6 +12,9 @@ pub mod Expressions
 pub mod Declarations
 pub mod Statements
 pub mod Sources
+pub mod Everywhere
+pub mod Inside
+pub mod Laid
 pub mod Conversions
 pub mod Library
 pub mod Defaults

@@ -41,7 +41,7 @@ use Rattle.upc_checker_nodes.specs.Marks.{right_use}
 use Rattle.upc_checker_nodes.specs.Parts.{member_of, member_kind, constant_node, constant_kind, last_of}
 use Rattle.meaning_laws.specs.layer.Formed.{AtTarget, MakesBy}
 use Rattle.meaning_laws.proofs.Rules.{unbroken, holds}
-use Rattle.meaning_laws_accepted.proofs.Types.{IsSoundType, sound_named}
+use Rattle.meaning_laws_accepted.proofs.Types.{IsSoundType, no_block, sound_named}
 use Rattle.meaning_laws_accepted.proofs.Sounds.{IsSoundExpr, HasSoundParts, AreSoundExprs}
 use Rattle.meaning_laws_accepted.proofs.Structs.{AreFormedStructs, named_formed, complete_has_size}
 use Rattle.meaning_laws_accepted.proofs.Scopes.{StandsFormed}
@@ -67,7 +67,7 @@ later_formed (how ∷ more) h = h.1
 
 into_formed : (ts : List CType) → Each IsSoundType ts → UsesFormed (map n.Into ts)
 into_formed [] h = tt
-into_formed (Qualified base c s x ∷ ts) h = (sound_named s base h.0, into_formed ts h.1)
+into_formed (Qualified base c s x ∷ ts) h = (sound_named s base h.0.0, into_formed ts h.1)
 
 pub uses_formed : (x : Meaning) → StandsFormed x → UsesFormed (uses_by x)
 uses_formed (m.Function s) h = into_formed s.parameters h.parameters
@@ -76,25 +76,29 @@ uses_formed x h = tt
 
 -- The right side of an assignment is converted into a type of objects.
 pub right_formed : (mark : AssignMark) (t : CType) → IsSoundType t → UseFormed (right_use mark t)
-right_formed a.Assign (Qualified base c s x) h = sound_named s base h
+right_formed a.Assign (Qualified base c s x) h = sound_named s base h.0
 right_formed mark t h = tt
 
 -- Where these are the structs at the end of the source.
 module _ (ξ : Setting) (σ : Structs) where
+  -- A type has a size at the end of the source.
+  abbrev pub Sized : CType → Type 0
+  Sized t = has_size σ t ≡ true
+
   -- The elements that an allocation with a value of this type makes have a size.
-  abbrev pub Makes : CType → Type 0
-  Makes t = AtTarget (λ (u : CType). has_size σ u ≡ true) (base_target (base_of t))
+  abbrev Makes : CType → Type 0
+  Makes t = AtTarget Sized (base_target (base_of t))
 
   -- An expression that is used so is formed, and of a type of objects.
   abbrev pub FormedAs : Use → Expr → Type 0
-  FormedAs how x = IsSoundExpr Makes x × Sound how (attr_of x)
+  FormedAs how x = IsSoundExpr Sized x × Sound how (attr_of x)
 
   -- So are expressions, each with its use.
   abbrev pub AllFormed : List Use → Exprs → Type 0
   AllFormed uses NoExprs = Unit {0}
   AllFormed uses (AndExpr x more) = FormedAs (first_use uses) x × AllFormed (later_uses uses) more
 
-  pub are_formed : (uses : List Use) (xs : Exprs) → AllFormed uses xs → AreSoundExprs Makes xs
+  pub are_formed : (uses : List Use) (xs : Exprs) → AllFormed uses xs → AreSoundExprs Sized xs
   are_formed uses NoExprs h = tt
   are_formed uses (AndExpr x more) h = (h.0.0, are_formed (later_uses uses) more h.1)
 
@@ -104,9 +108,9 @@ module _ (ξ : Setting) (σ : Structs) where
 
   -- So is an expression of this kind with this attribute.
   abbrev pub KindFormed : Use → Attr → ExprKind → Type 0
-  KindFormed how attr kind = (IsSoundType attr.ctype × HasSoundParts Makes attr kind) × Sound how attr
+  KindFormed how attr kind = (IsSoundType attr.ctype × HasSoundParts Sized attr kind) × Sound how attr
 
-  pub makes_as : (how : Use) (attr : Attr) (kind : ExprKind) → Sound how attr → HasSoundParts Makes attr kind
+  pub makes_as : (how : Use) (attr : Attr) (kind : ExprKind) → Sound how attr → HasSoundParts Sized attr kind
       → KindFormed how attr kind
   makes_as how attr kind h parts = ((h.sound, parts), h)
 
@@ -200,7 +204,7 @@ module _ (ξ : Setting) (σ : Structs) where
       by b.Or = makes_as how _ (k.Or x y) (number_sound how kind.Int _ _ tt) (h.0, i.0)
 
   pub assign_formed : (how : Use) (φ : Facts) (mark : AssignMark) (x y : Expr)
-      → lowest φ (assign_node mark (attr_of x) (attr_of y)) ≡ None → FormedAs n.Plain x → IsSoundExpr Makes y
+      → lowest φ (assign_node mark (attr_of x) (attr_of y)) ≡ None → FormedAs n.Plain x → IsSoundExpr Sized y
       → KindFormed how (attr φ (assign_node mark (attr_of x) (attr_of y))) (assign_kind mark x y)
   assign_formed how φ mark x y none h i = by mark none
     where
@@ -237,7 +241,7 @@ module _ (ξ : Setting) (σ : Structs) where
   made_formed s n.Prints h e i a = absurd (false≢true a)
   made_formed s (n.Into (Qualified (types.Pointer (Qualified base d t y)) c v x)) h e i a = (
     pointer_sound _ (Qualified base d t y) _ _ h,
-    complete_has_size σ.completed s.structs.completed base e i h (and_parts _ _ a).1,
+    complete_has_size σ.completed s.structs.completed base e i h.0 (and_parts _ _ a).1,
   )
   made_formed s (n.Into (Qualified types.Void c v x)) h e i a = absurd (false≢true a)
   made_formed s (n.Into (Qualified (types.Integer j) c v x)) h e i a = absurd (false≢true a)
@@ -257,16 +261,16 @@ module _ (ξ : Setting) (σ : Structs) where
   library_formed s how c.PhaseOf h e i a = (number_sound how kind.ULong _ _ tt, tt)
   library_formed s how c.AddressField h e i a = (number_sound how kind.ULong _ _ tt, tt)
   library_formed s how c.AffinitySize h e i a = (number_sound how kind.ULong _ _ tt, tt)
-  library_formed s how c.GlobalLockAlloc h e i a = (pointer_sound how _ _ _ tt, tt)
-  library_formed s how c.AllLockAlloc h e i a = (pointer_sound how _ _ _ tt, tt)
+  library_formed s how c.GlobalLockAlloc h e i a = (pointer_sound how _ _ _ (tt, no_block), tt)
+  library_formed s how c.AllLockAlloc h e i a = (pointer_sound how _ _ _ (tt, no_block), tt)
   library_formed s how c.LockAttempt h e i a = (number_sound how kind.Int _ _ tt, tt)
   library_formed s how call h e i a =
-      (record { sound = tt; rows = λ q. refl; struct = λ q. absurd (false≢true q) }, tt)
+      (record { sound = (tt, no_block); rows = λ q. refl; struct = λ q. absurd (false≢true q) }, tt)
 
   pub call_formed : (s : State) (how : Use) (x : Meaning) (name : Option Name) (runs : Bool)
       (format : Option (List ℕ)) (args : Exprs) → StandsFormed x → UseFormed how
       → Earlier σ.completed s.structs.completed → AreFormedStructs s.structs.completed
-      → lowest (facts_in ξ s) (n.Call how x runs format (attrs_of args)) ≡ None → AreSoundExprs Makes args
+      → lowest (facts_in ξ s) (n.Call how x runs format (attrs_of args)) ≡ None → AreSoundExprs Sized args
       → KindFormed how (attr (facts_in ξ s) (n.Call how x runs format (attrs_of args)))
       (k.Call (target_by ξ x name) args)
   call_formed s how (m.Library call) name runs format args h converts e i none g =

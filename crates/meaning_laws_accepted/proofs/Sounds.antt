@@ -5,6 +5,7 @@ use Rattle.upc_values.proofs.Lists.{each-grow}
 use Rattle.upc_types.specs.Types as types
 use Rattle.upc_types.specs.Types.{CType, Qualified, base_of, block_of}
 use Rattle.typing_rules.specs.Nodes.{Attr}
+use Rattle.typing_rules.specs.Values.{base_target}
 use Rattle.typed_tree.specs.declared.tree.Target.TheVariants as target
 use Rattle.typed_tree.specs.Tree as tree
 use Rattle.typed_tree.specs.Tree.{Expr, Is, ExprKind, Literal, Mythread, Object, Callee, Format, Paren, Subscript}
@@ -19,23 +20,28 @@ use Rattle.typed_tree.specs.Tree.{AndSwitchStatement, Function}
 use Rattle.source_meaning.specs.Expressions.{is_lvalue}
 use Rattle.source_meaning.specs.Statements.{element_type}
 use Rattle.meaning_laws.specs.layer.Values.{IsFormedType}
-use Rattle.meaning_laws.specs.layer.Formed.{LiesBy, MakesBy, IsFormed, HasFormedParts, AreFormed}
+use Rattle.meaning_laws.specs.layer.Formed.{LiesBy, AtTarget, MakesBy, IsFormed, HasFormedParts, AreFormed}
 use Rattle.meaning_laws.specs.layer.FormedStatements.{IsFormedInitial, AreFormedObjects}
 use Rattle.meaning_laws.specs.layer.FormedStatements.{IsFormedValue, IsFormedAffinity, IsFormedHead, IsFormedStatement}
 use Rattle.meaning_laws.specs.layer.FormedStatements.{IsFormedBy, IsFormedLast, AreFormedArms, AreFormedItems}
 use Rattle.meaning_laws.specs.layer.FormedStatements.{AreFormedSwitch, IsFormedFunction}
-use Rattle.meaning_laws_accepted.proofs.Types.{IsSoundType, formed_type}
+use Rattle.meaning_laws_accepted.proofs.Types.{IsSoundType, element_block, formed_type}
 
 elements_formed : (t : CType) → IsSoundType t → IsFormedType (element_type (base_of t) t)
 elements_formed (Qualified types.Void c s x) h = tt
-elements_formed (Qualified (types.Integer k) c s x) h = h
+elements_formed (Qualified (types.Integer k) c s x) h = h.0
 elements_formed (Qualified (types.Struct number) c s x) h = tt
-elements_formed (Qualified (types.Array (Qualified b d t y) count) c s x) h = formed_type (Qualified b d t y) h.1
+elements_formed (Qualified (types.Array (Qualified b d t y) count) c s x) h =
+    formed_type (Qualified b d t y) (h.0.1, element_block s t h.0.0 h.1)
 elements_formed (Qualified (types.Pointer t) c s x) h = tt
-elements_formed (Qualified types.LockObject c s x) h = absurd h
+elements_formed (Qualified types.LockObject c s x) h = absurd h.0
 
--- Where the type of each call that allocates passes this.
-module _ (makes : CType → Type 0) where
+-- Where this is what the type of each object and of each parameter is, and that of the elements of each call that
+-- allocates.
+module _ (sized : CType → Type 0) where
+  abbrev makes : CType → Type 0
+  makes t = AtTarget sized (base_target (base_of t))
+
   -- ---- what is kept
 
   abbrev mutual
@@ -82,9 +88,9 @@ module _ (makes : CType → Type 0) where
   IsSoundInitial (InitialValue value) = IsSoundExpr value
   IsSoundInitial (InitialList values) = AreSoundExprs values
 
-  -- A declared object is of a type of objects, and so is each expression in its initialiser.
+  -- A declared object is of a type of objects, and so is each expression in its initialiser; and its type is `sized`.
   abbrev pub IsSoundObject : DeclaredObject → Type 0
-  IsSoundObject x = IsSoundType x.ctype × IsSoundInitial x.initial
+  IsSoundObject x = IsSoundType x.ctype × IsSoundInitial x.initial × sized x.ctype
 
   -- So is each in an expression, where there is one.
   abbrev pub IsSoundValue : Option Expr → Type 0
@@ -149,6 +155,7 @@ module _ (makes : CType → Type 0) where
   pub record IsSoundFunction (f : Function) : Type 0 where
     pub result : IsSoundType f.result
     pub parameters : Each IsSoundType f.parameters
+    pub sizes : Each sized f.parameters
     pub body : IsSoundStatement f.body
 
   -- ---- what is so is formed

@@ -34,25 +34,25 @@ use Rattle.meaning_laws_accepted.proofs.Sounds.{IsSoundStatement, IsSoundLast, A
 use Rattle.meaning_laws_accepted.proofs.Sounds.{AreSoundSwitch}
 use Rattle.meaning_laws_accepted.proofs.Scopes.{Knows}
 use Rattle.meaning_laws_accepted.proofs.Walks.{Keeps, keeps_then, keeps_give, keeps_weaken, any_judge, keeps_enclosed}
-use Rattle.meaning_laws_accepted.proofs.Nodes.{Makes}
+use Rattle.meaning_laws_accepted.proofs.Nodes.{Sized}
 use Rattle.meaning_laws_accepted.proofs.Expressions.{keeps_constantly, keeps_walk}
 use Rattle.meaning_laws_accepted.proofs.Declarations.{keeps_declaration}
 
 module _ (ξ : Setting) (σ : Structs) where
   keeps_value : (Γ : Env) (x : Option t.Expr)
-      → Keeps σ.completed (walk_value ξ Γ x) (λ a. Knows Γ → IsSoundValue (Makes ξ σ) a)
+      → Keeps σ.completed (walk_value ξ Γ x) (λ a. Knows Γ → IsSoundValue (Sized ξ σ) a)
   keeps_value Γ None = keeps_give _ (λ k. tt)
   keeps_value Γ (Some e) = keeps_then (keeps_walk ξ σ Γ n.Plain e) (λ a. keeps_give _ (λ g k. (g k tt).0))
 
   keeps_test : (Γ : Env) (x : Test)
-      → Keeps σ.completed (walk_test ξ Γ x) (λ a. Knows Γ → IsSoundExpr (Makes ξ σ) a)
+      → Keeps σ.completed (walk_test ξ Γ x) (λ a. Knows Γ → IsSoundExpr (Sized ξ σ) a)
   keeps_test Γ (Tests left value right) = keeps_weaken (keeps_walk ξ σ Γ n.Plain value) (λ a g k. (g k tt).0)
 
   -- ---- the heads of loops
 
   abbrev BeginsFormed : Env → Begun → Type 0
   BeginsFormed Γ b =
-      Knows Γ → Knows b.scope × Each (IsSoundObject (Makes ξ σ)) b.objects × IsSoundValue (Makes ξ σ) b.first
+      Knows Γ → Knows b.scope × Each (IsSoundObject (Sized ξ σ)) b.objects × IsSoundValue (Sized ξ σ) b.first
 
   keeps_first : (Γ : Env) (x : First) → Keeps σ.completed (walk_first ξ Γ x) (BeginsFormed Γ)
   keeps_first Γ (FirstValue value semicolon) =
@@ -62,7 +62,7 @@ module _ (ξ : Setting) (σ : Structs) where
       let r = g k in (r.scope, r.objects, tt)))
 
   keeps_affinity : (Γ : Env) (x : Affinity)
-      → Keeps σ.completed (walk_affinity ξ Γ x) (λ a. Knows Γ → IsSoundAffinity (Makes ξ σ) a)
+      → Keeps σ.completed (walk_affinity ξ Γ x) (λ a. Knows Γ → IsSoundAffinity (Sized ξ σ) a)
   keeps_affinity Γ NoAffinity = keeps_give _ (λ k. tt)
   keeps_affinity Γ (ContinueAffinity word) = keeps_give _ (λ k. tt)
   keeps_affinity Γ (ValueAffinity value) =
@@ -71,7 +71,7 @@ module _ (ξ : Setting) (σ : Structs) where
 
   abbrev HeadFormed : Env → Headed → Type 0
   HeadFormed Γ h =
-      Knows Γ → IsSoundHead (Makes ξ σ) h.head × IsSoundAffinity (Makes ξ σ) h.affinity × Knows h.scope
+      Knows Γ → IsSoundHead (Sized ξ σ) h.head × IsSoundAffinity (Sized ξ σ) h.affinity × Knows h.scope
 
   keeps_for_head : (Γ : Env) (x : ForHead) → Keeps σ.completed (walk_for_head ξ Γ x) (HeadFormed Γ)
   keeps_for_head Γ (ForParts left first test test_end step right) =
@@ -92,34 +92,34 @@ module _ (ξ : Setting) (σ : Structs) where
   ReturnsNamed c = IsNamed (base_of c.result)
 
   keeps_returned : (Γ : Env) (c : Around) (x : Option t.Expr)
-      → Keeps σ.completed (walk_returned ξ Γ c x) (λ a. Knows Γ → ReturnsNamed c → IsSoundValue (Makes ξ σ) a)
+      → Keeps σ.completed (walk_returned ξ Γ c x) (λ a. Knows Γ → ReturnsNamed c → IsSoundValue (Sized ξ σ) a)
   keeps_returned Γ c None = keeps_give _ (λ k h. tt)
   keeps_returned Γ c (Some e) =
       keeps_then (keeps_walk ξ σ Γ (n.Into c.result) e) (λ a. keeps_give _ (λ g k h. (g k h).0))
 
   keeps_returns : (c : Around) (place : Place) (x : Option Expr)
       → Keeps σ.completed (returns ξ c place x)
-      (λ y. IsSoundValue (Makes ξ σ) x → IsSoundStatement (Makes ξ σ) y)
+      (λ y. IsSoundValue (Sized ξ σ) x → IsSoundStatement (Sized ξ σ) y)
   keeps_returns c place None = keeps_then (any_judge ξ _ _ (λ q. refl)) (λ u. keeps_give _ (λ i h. h))
   keeps_returns c place (Some a) = keeps_then (any_judge ξ _ _ (λ q. refl)) (λ u. keeps_give _ (λ i h. h))
 
   keeps_synchronise : (place : Place) (how : Synchronises) (x : Option Expr)
       → Keeps σ.completed (synchronise ξ place how x)
-      (λ y. IsSoundValue (Makes ξ σ) x → IsSoundStatement (Makes ξ σ) y)
+      (λ y. IsSoundValue (Sized ξ σ) x → IsSoundStatement (Sized ξ σ) y)
   keeps_synchronise place how None = keeps_give _ (λ h. h)
   keeps_synchronise place how (Some a) = keeps_then (any_judge ξ _ _ (λ q. refl)) (λ u. keeps_give _ (λ i h. h))
 
   -- ---- statements
 
   abbrev StatementFormed : Env → Around → typed.Statement → Type 0
-  StatementFormed Γ c x = Knows Γ → ReturnsNamed c → IsSoundStatement (Makes ξ σ) x
+  StatementFormed Γ c x = Knows Γ → ReturnsNamed c → IsSoundStatement (Sized ξ σ) x
 
   abbrev SwitchFormed : Env → Around → Labelled → Type 0
-  SwitchFormed Γ c x = Knows Γ → ReturnsNamed c → AreSoundSwitch (Makes ξ σ) x.items
+  SwitchFormed Γ c x = Knows Γ → ReturnsNamed c → AreSoundSwitch (Sized ξ σ) x.items
 
   abbrev ArmsFormed : Env → Env → Around → Armed → Type 0
   ArmsFormed Γ Δ c x =
-      Knows Γ → Knows Δ → ReturnsNamed c → AreSoundArms (Makes ξ σ) x.arms × Knows x.scope
+      Knows Γ → Knows Δ → ReturnsNamed c → AreSoundArms (Sized ξ σ) x.arms × Knows x.scope
 
   mutual
     keeps_statement : (Γ : Env) (c : Around) (strict : Bool) (x : Statement)
@@ -181,7 +181,7 @@ module _ (ξ : Setting) (σ : Structs) where
 
     keeps_items : (Γ : Env) (c : Around) (strict : Bool) (x : BlockItems)
         → Keeps σ.completed (walk_items ξ Γ c strict x)
-        (λ xs. Knows Γ → ReturnsNamed c → AreSoundItems (Makes ξ σ) xs)
+        (λ xs. Knows Γ → ReturnsNamed c → AreSoundItems (Sized ξ σ) xs)
     keeps_items Γ c strict NoBlockItems = keeps_give _ (λ k h. tt)
     keeps_items Γ c strict (AndBlockItem (DeclarationItem declaration) more) =
         keeps_then (keeps_declaration ξ σ Γ declaration) (λ b. keeps_then (keeps_items b.scope c strict more) (λ xs.
@@ -214,7 +214,7 @@ module _ (ξ : Setting) (σ : Structs) where
 
     keeps_otherwise : (Δ : Env) (c : Around) (strict : Bool) (x : Otherwise)
         → Keeps σ.completed (walk_otherwise ξ Δ c strict x)
-        (λ o. Knows Δ → ReturnsNamed c → IsSoundLast (Makes ξ σ) o)
+        (λ o. Knows Δ → ReturnsNamed c → IsSoundLast (Sized ξ σ) o)
     keeps_otherwise Δ c strict NoOtherwise = keeps_give _ (λ k h. tt)
     keeps_otherwise Δ c strict (Else word body) =
         keeps_then (keeps_enclosed (keeps_statement Δ c strict body)) (λ b. keeps_give _ (λ g k h. g k h))

@@ -1,6 +1,6 @@
--- Structs whose members are formed and which are no larger than an object can be.
+-- Structs whose members are formed and which have some bytes, and no more than an object can have.
 use Rattle.std.proofs.Common.{◌≡◌, ℕ, nat_lt, nat_le, nat_eq, ◌==◌, ◌+◌, Bool, true, false, ◌&&◌, if◌then◌else◌}
-use Rattle.std.proofs.Common.{List, [], ◌∷◌, Option, Some, None, is_some, refl, sym, ap, ◌∙◌}
+use Rattle.std.proofs.Common.{List, [], ◌∷◌, length, Option, Some, None, is_some, refl, sym, ap, ◌∙◌}
 use Rattle.std.specs.Cmp.Lexicographic.{pointwise}
 use Rattle.std.proofs.lemmas.Bool.{false≢true, and_parts}
 use Rattle.block_layout.specs.declared.kind.Kind.{Kind}
@@ -24,12 +24,12 @@ use Rattle.meaning_laws_accepted.proofs.Types.{IsDeep, IsSoundType}
 abbrev pub IsMember : Member → Type 0
 IsMember m = IsSoundType m.ctype × (is_nested m.ctype ≡ false)
 
--- The members of each struct are formed, and it has no more bytes than an object can have.
+-- The members of each struct are formed, it has no more bytes than an object can have, and it has a member.
 abbrev pub AreFormedStructs : List Completed → Type 0
 AreFormedStructs [] = Unit {0}
 AreFormedStructs (c ∷ older) =
     Each IsMember c.members × (nat_lt most_bytes (size_or_more (members_within older c.members)) ≡ false)
-    × AreFormedStructs older
+    × (nat_eq (length c.members) 0 ≡ false) × AreFormedStructs older
 
 -- ---- members
 
@@ -41,7 +41,7 @@ either_members false xs ys h i = i
 members_formed : (cs : List Completed) (number : ℕ) → AreFormedStructs cs → Each IsMember (members_in cs number)
 members_formed [] number h = tt
 members_formed (c ∷ older) number h =
-    either_members (c.number == number) c.members (members_in older number) h.0 (members_formed older number h.2)
+    either_members (c.number == number) c.members (members_in older number) h.0 (members_formed older number h.3)
 
 -- A member that is found is formed.
 abbrev pub IsFoundFormed : Option Found → Type 0
@@ -80,24 +80,25 @@ either_small : (b : Bool) (o p : Option Known) → IsSmall o → IsSmall p → I
 either_small true o p h i = h
 either_small false o p h i = i
 
-within_small : (complete : Bool) (l : Layout)
+pub within_parts : (complete : Bool) (l : Layout)
     → nat_lt most_bytes
     (size_or_more (if complete && nat_le l.size most_bytes then Some l else None)) ≡ false
-    → nat_le l.size most_bytes ≡ true
-within_small complete l h = by (complete && nat_le l.size most_bytes) refl h
+    → (complete ≡ true) × (nat_le l.size most_bytes ≡ true)
+within_parts complete l h = by (complete && nat_le l.size most_bytes) refl h
   where
     by : (b : Bool) → (complete && nat_le l.size most_bytes) ≡ b
-        → nat_lt most_bytes (size_or_more (if b then Some l else None)) ≡ false → nat_le l.size most_bytes ≡ true
-    by true e i = (and_parts complete (nat_le l.size most_bytes) e).1
+        → nat_lt most_bytes (size_or_more (if b then Some l else None)) ≡ false
+        → (complete ≡ true) × (nat_le l.size most_bytes ≡ true)
+    by true e i = and_parts complete (nat_le l.size most_bytes) e
     by false e i = absurd (false≢true (sym i))
 
 known_small : (cs : List Completed) (number : ℕ) → AreFormedStructs cs → IsSmall (known_in cs number)
 known_small [] number h = tt
 known_small (c ∷ older) number h =
     either_small (c.number == number) (Some _) (known_in older number)
-    (within_small (all_complete (complete_in older) c.members)
-    (struct_layout (member_layouts (layout_in older) c.members)) h.1)
-    (known_small older number h.2)
+    (within_parts (all_complete (complete_in older) c.members)
+    (struct_layout (member_layouts (layout_in older) c.members)) h.1).1
+    (known_small older number h.3)
 
 -- What is known of a struct gives its layout as a type.
 abbrev within_of : Option Known → Option Layout
@@ -107,7 +108,7 @@ complete_within : (o : Option Known) → IsSmall o → is_some o ≡ true → is
 complete_within None h e = absurd (false≢true e)
 complete_within (Some k) h e = rw h refl
 
-number_within : (cs : List Completed) (k : Kind) → IsInteger k → is_some (base_within cs (types.Integer k)) ≡ true
+pub number_within : (cs : List Completed) (k : Kind) → IsInteger k → is_some (base_within cs (types.Integer k)) ≡ true
 number_within cs kind.Char h = refl
 number_within cs kind.UChar h = refl
 number_within cs kind.Short h = refl
@@ -120,7 +121,7 @@ number_within cs (kind.Shared n block) h = absurd h
 number_within cs kind.Lock h = absurd h
 number_within cs (kind.Private n) h = absurd h
 
-pointer_within : (cs : List Completed) (t : CType) → is_some (base_within cs (types.Pointer t)) ≡ true
+pub pointer_within : (cs : List Completed) (t : CType) → is_some (base_within cs (types.Pointer t)) ≡ true
 pointer_within cs (Qualified types.LockObject c s x) = refl
 pointer_within cs (Qualified types.Void c (Some block) x) = refl
 pointer_within cs (Qualified types.Void c None x) = refl

@@ -1,5 +1,5 @@
 -- What walks make of which every node meets its rules.
-use Rattle.std.proofs.Common.{◌≡◌, ℕ, nat_lt, Bool, false, List, ◌++◌, length, Option, Some, None, refl}
+use Rattle.std.proofs.Common.{◌≡◌, ℕ, nat_lt, nat_eq, Bool, false, List, ◌++◌, length, Option, Some, None, refl}
 use Rattle.std.proofs.Common.{sym, ◌∙◌, subst}
 use Rattle.upc_text.specs.declared.place.Place.{Place}
 use Rattle.upc_values.specs.Lists.{Each}
@@ -9,7 +9,7 @@ use Rattle.typing_rules.specs.Attributes.{Facts, attr}
 use Rattle.typing_rules.specs.Nodes as n
 use Rattle.typing_rules.specs.Nodes.{Node}
 use Rattle.typing_rules.specs.Rules as rules
-use Rattle.typing_rules.specs.Rules.{lowest, table, rule_2, rule_6}
+use Rattle.typing_rules.specs.Rules.{lowest, table, rule_2, rule_6, rule_8}
 use Rattle.typing_rules.specs.Faults.{Seen, Fault, first_fault, or_later}
 use Rattle.typed_tree.specs.Scopes.{Setting, Env, State, with_tag, level_of}
 use Rattle.typed_tree.specs.Tree.{Expr, Is, ExprKind}
@@ -71,20 +71,21 @@ module _ {cs : List Completed} where
 
   pub keeps_judge : {P : Unit {0} → Type 0} (ξ : Setting) (at : Place) (x : Node)
       → ((s : State) → (counted ξ at x s).structs ≡ s.structs)
-      → ((s : State) → lowest (facts_in ξ s) x ≡ None → P tt) → Keeps cs (judge ξ at x) P
+      → ((s : State) → Earlier cs s.structs.completed → AreFormedStructs s.structs.completed
+      → lowest (facts_in ξ s) x ≡ None → P tt) → Keeps cs (judge ξ at x) P
   unfolding judge
   keeps_judge ξ at x same h = record {
     before = λ s fine e. subst (λ σ. Earlier cs σ.completed) (same s) e;
     made = λ s fine e i. (
       subst (λ σ. AreFormedStructs σ.completed) (sym (same s)) i,
-      h s (none_at (lowest (facts_in ξ s) x) at fine),
+      h s (subst (λ σ. Earlier cs σ.completed) (same s) e) i (none_at (lowest (facts_in ξ s) x) at fine),
     );
   }
 
   -- Nothing is said of what is made.
   pub any_judge : (ξ : Setting) (at : Place) (x : Node) → ((s : State) → (counted ξ at x s).structs ≡ s.structs)
       → Keeps cs (judge ξ at x) (λ u. Unit {0})
-  any_judge ξ at x same = keeps_judge ξ at x same (λ s h. tt)
+  any_judge ξ at x same = keeps_judge ξ at x same (λ s e i h. tt)
 
   pub keeps_finish : {P : Expr → Type 0} (ξ : Setting) (at : Place) (x : Node) (kind : Facts → ExprKind)
       → ((s : State) → Earlier cs s.structs.completed → AreFormedStructs s.structs.completed
@@ -116,9 +117,9 @@ module _ {cs : List Completed} where
   unfolding end_specifiers
   keeps_end ξ at p = record { before = λ s fine e. e; made = λ s fine e i. (i, tt) }
 
-  pub keeps_to_end : (ξ : Setting) (at : Place) {w : Walk Specified} → Keeps cs w (λ p. Unit {0})
-      → Keeps cs (to_their_end ξ at w) (λ p. Unit {0})
-  keeps_to_end ξ at h = keeps_then h (λ p. keeps_then (keeps_end ξ at p) (λ u. keeps_give p (λ i j. tt)))
+  pub keeps_to_end : {P : Specified → Type 0} (ξ : Setting) (at : Place) {w : Walk Specified} → Keeps cs w P
+      → Keeps cs (to_their_end ξ at w) P
+  keeps_to_end ξ at h = keeps_then h (λ p. keeps_then (keeps_end ξ at p) (λ u. keeps_give p (λ i j. j)))
 
   -- ---- tags and structs
 
@@ -129,11 +130,11 @@ module _ {cs : List Completed} where
   }
 
   -- A struct is completed with the members that a walk makes.
-  pub keeps_struct : {A : Type 0} {w : Walk (List Member)} (ξ : Setting) (at : Place) (number : ℕ) (a : A)
-      → Keeps cs w (Each IsMember)
-      → Keeps cs (andthen w (λ ms. andthen (close_struct ξ at number ms) (λ u. give a))) (λ a. Unit {0})
+  pub keeps_struct : {A : Type 0} {P : A → Type 0} {w : Walk (List Member)} (ξ : Setting) (at : Place) (number : ℕ)
+      (a : A) → P a → Keeps cs w (Each IsMember)
+      → Keeps cs (andthen w (λ ms. andthen (close_struct ξ at number ms) (λ u. give a))) P
   unfolding andthen judge look update
-  keeps_struct {A = A} {w = w} ξ at number a h = record {
+  keeps_struct {A = A} {w = w} ξ at number a passes h = record {
     before = λ s fine e.
         let f = both_fine (w s).seen (close (w s).value (w s).state).seen fine in
         h.before s f.0 (closed (w s).value (w s).state f.1 e).0;
@@ -141,7 +142,7 @@ module _ {cs : List Completed} where
         let f = both_fine (w s).seen (close (w s).value (w s).state).seen fine in
         let c = closed (w s).value (w s).state f.1 e in
         let p = h.made s f.0 c.0 i in
-        ((p.1, c.1, p.0), tt);
+        ((p.1, c.1, c.2, p.0), passes);
   }
     where
       close : List Member → Walk A
@@ -153,10 +154,12 @@ module _ {cs : List Completed} where
       closed : (ms : List Member) (s : State) → first_fault (close ms s).seen ≡ None
           → Earlier cs (close ms s).state.structs.completed
           → Earlier cs s.structs.completed × (nat_lt most_bytes (members_size s ms) ≡ false)
+          × (nat_eq (length ms) 0 ≡ false)
       closed ms s fine e =
           let x = node ms s in
           let none = none_at (lowest (facts_in ξ s) x) at fine in
           let fresh = unbroken (table (facts_in ξ s) x) 1 (rules.judge 2 (rule_2 x)) refl none in
           let small = unbroken (table (facts_in ξ s) x) 5 (rules.judge 6 (rule_6 (facts_in ξ s) x)) refl none in
           let c : Completed = record { number = number; members = ms } in
-          (Before c s.structs.completed fresh e, small)
+          let some = unbroken (table (facts_in ξ s) x) 7 (rules.judge 8 (rule_8 (facts_in ξ s) x)) refl none in
+          (Before c s.structs.completed fresh e, small, some)

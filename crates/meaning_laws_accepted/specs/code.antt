@@ -1,3 +1,4 @@
 pub mod FormedPrograms
+pub mod LaidPrograms
 pub mod Defaults
 pub mod Laws

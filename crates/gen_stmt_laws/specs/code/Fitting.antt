@@ -28,7 +28,7 @@ use Rattle.gen_stmt.specs.layer.Programs.{program_code}
 use Rattle.meaning_laws.specs.layer.Formed.{MakesSized}
 use Rattle.meaning_laws.specs.layer.FormedStatements.{IsFormedFunction}
 use Rattle.meaning_laws.specs.layer.Values.{HasIntegerKind}
-use Rattle.gen_stmt_laws.specs.code.Throughout.{ThroughoutStatement}
+use Rattle.meaning_laws_accepted.specs.layer.Throughout.{ThroughoutStatement}
 
 -- Each struct that is complete has a size that an object can have.
 abbrev pub AreFine : List Completed → Type 0

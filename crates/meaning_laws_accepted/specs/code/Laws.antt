@@ -12,6 +12,7 @@ use Rattle.upc_checker.specs.Outcomes.{Accepted, outcome}
 use Rattle.meaning_laws.specs.layer.Values.{IsOf, Brings}
 use Rattle.meaning_laws.specs.layer.Formed.{CallsFit}
 use Rattle.meaning_laws_accepted.specs.code.FormedPrograms.{IsFormedProgram}
+use Rattle.meaning_laws_accepted.specs.code.LaidPrograms.{IsLaidProgram}
 use Rattle.meaning_laws_accepted.specs.code.Defaults.{TakesFunction}
 
 -- The types in the program of each source that is accepted are formed, and each call in it that allocates makes
@@ -20,6 +21,13 @@ pub record AcceptedAreFormed : Type 0 where
   pub each :
       (names : List (List ℕ)) (threads : ℕ) (unit : List External) (x : Checked)
       → outcome names threads unit ≡ Accepted x → IsFormedProgram x
+
+-- In the program of each source that is accepted each object and each parameter has a layout, so that none counts as
+-- one byte, and each block is at most 16,777,216 elements, so that none counts as fewer than it has.
+pub record AcceptedAreLaid : Type 0 where
+  pub each :
+      (names : List (List ℕ)) (threads : ℕ) (unit : List External) (x : Checked)
+      → outcome names threads unit ≡ Accepted x → IsLaidProgram x
 
 -- As a thread runs a program, each expression gives a value of its type, each operator, conversion and call of the
 -- library takes all values of its operands' types, and what is written fits its cell; and functions give values of
