@@ -24,7 +24,7 @@ use Rattle.upc_checker_types.specs.Shapes.{adjusted, block_size}
 use Rattle.meaning_laws.proofs.Rules.{or_right}
 use Rattle.meaning_laws_accepted.specs.code.LaidPrograms.{IsBlock}
 use Rattle.meaning_laws_accepted.proofs.Types.{IsDeep, IsTarget, IsSound, IsNamed, no_block, deep_sound, deep_array}
-use Rattle.meaning_laws_accepted.proofs.Types.{deep_named, pointer_deep, no_rows}
+use Rattle.meaning_laws_accepted.proofs.Types.{deep_named, no_rows}
 
 -- ---- specifiers
 

@@ -341,7 +341,8 @@ module _ (ξ : Setting) (σ : Structs) where
     pub keeps_parameters : (Γ : Env) (x : Parameters)
         → Keeps σ.completed (walk_parameters ξ Γ x) (λ d. Knows Γ → AreParameters d)
     keeps_parameters Γ (NoParameters left right) = keeps_give _ (λ k. record { types = tt; held = tt; scope = k })
-    keeps_parameters Γ (VoidParameters left word right) = keeps_give _ (λ k. record { types = tt; held = tt; scope = k })
+    keeps_parameters Γ (VoidParameters left word right) =
+        keeps_give _ (λ k. record { types = tt; held = tt; scope = k })
     keeps_parameters Γ (SomeParameters left first more right) =
         keeps_then (keeps_parameter _ first) (λ d. keeps_weaken (keeps_next_parameters d more)
         (λ r g i k. g (i (record { types = tt; held = tt; scope = k }))))

@@ -10,7 +10,7 @@ use Rattle.meaning_laws.proofs.Layouts.{size_laid}
 use Rattle.meaning_laws_accepted.specs.code.LaidPrograms.{HasBlocks, IsSized, IsLaidObject}
 use Rattle.meaning_laws_accepted.specs.code.Laws.{AcceptedAreLaid}
 use Rattle.meaning_laws_accepted.specs.layer.Throughout.{ThroughoutStatement}
-use Rattle.meaning_laws_accepted.proofs.Types.{sound_blocks}
+use Rattle.meaning_laws_accepted.proofs.Types.{IsSoundType, sound_blocks}
 use Rattle.meaning_laws_accepted.proofs.Sounds.{IsSoundObject, IsSoundFunction}
 use Rattle.meaning_laws_accepted.proofs.Sources.{source_sound}
 use Rattle.meaning_laws_accepted.proofs.Everywhere.{everywhere}
@@ -37,6 +37,12 @@ accepted_are_laid = record {
         parameters =
             each-grow (IsSoundFunction sized) (λ f. Each sized f.parameters) x.functions (λ f g. g.sizes)
             sound.functions;
+        signatures =
+            each-grow (IsSoundFunction sized) (λ f. HasBlocks f.result × Each HasBlocks f.parameters) x.functions
+            (λ f g. (
+              sound_blocks f.result g.result,
+              each-grow IsSoundType HasBlocks f.parameters sound_blocks g.parameters,
+            )) sound.functions;
         blocks =
             each-grow (IsSoundFunction sized) (λ f. ThroughoutStatement (Blocks x) f.body) x.functions
             (λ f g. everywhere sized (Blocks x) (λ a kind b. sound_blocks a.ctype b) f.body g.body) sound.functions;

@@ -14,7 +14,7 @@ use Rattle.upc_types.specs.Types.{CType, Qualified, Base, base_of, block_of, Mem
 use Rattle.upc_types.specs.Layout.{base_layout, base_complete, complete_in, layout_in, layout_or_none, known_in}
 use Rattle.upc_types.specs.Layout.{all_complete, member_layouts, end_behind, widest, struct_layout, aligned, most_bytes}
 use Rattle.upc_types.specs.Layout.{is_complete, size, base_within}
-use Rattle.upc_types.specs.Cells.{leaf_base, leaves}
+use Rattle.upc_types.specs.Cells.{leaves}
 use Rattle.upc_types.proofs.Members.{kind_some, pointer_some, aligned_low, widest_low, grow}
 use Rattle.upc_types.proofs.Steps.{positive}
 use Rattle.typing_rules.specs.declared.attribute.Constant.{Constant}

@@ -9,7 +9,7 @@ use Rattle.upc_tree.specs.Unit.{External, PragmaPart, DeclarationPart, FunctionP
 use Rattle.upc_values.specs.Lists.{Each}
 use Rattle.upc_values.proofs.Lists.{each-push}
 use Rattle.upc_values.proofs.Membership.{each-append}
-use Rattle.upc_types.specs.Types.{CType, Structs, base_of}
+use Rattle.upc_types.specs.Types.{CType, Structs}
 use Rattle.typing_rules.specs.Attributes.{Facts}
 use Rattle.typing_rules.specs.Faults.{first_fault}
 use Rattle.typing_rules.specs.Values.{value_type, is_lock, is_struct}

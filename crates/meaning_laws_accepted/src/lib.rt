@@ -11,7 +11,7 @@ pub fn accepted_are_formed()
 {}
 
 /// In the program of each source that is accepted each object, of the file and of blocks, and each parameter has a
-/// layout, and each block in its type and in the type of an expression is at most 16,777,216 elements.
+/// layout, and each block in these types and in those of results and expressions is at most 16,777,216 elements.
 #[tactic(auto, using(crate::proofs::Laid::accepted_are_laid))]
 pub fn accepted_are_laid()
     ensures { AcceptedAreLaid }

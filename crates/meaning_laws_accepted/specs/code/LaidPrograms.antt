@@ -39,11 +39,12 @@ pub record IsLaidObject (x : Checked) (o : DeclaredObject) : Type 0 where
   pub blocks : HasBlocks o.ctype
 
 -- Each object of a program is so, those of the file and those of blocks and of heads of loops; the type of each
--- parameter has a layout; and each block in the type of an expression that is evaluated is at most 16,777,216 elements,
--- of which its own is that over which a subscript steps, and that of what it points to the one over which an operator
--- does (C99 6.5, 6.7, 6.9.1; UPC 6.5.1.1).
+-- parameter has a layout; and each block in the types of a function's result and parameters is at most 16,777,216
+-- elements, and each in the type of an expression that is evaluated, of which its own is that over which a subscript
+-- steps, and that of what it points to the one over which an operator does (C99 6.5, 6.7, 6.9.1; UPC 6.5.1.1).
 pub record IsLaidProgram (x : Checked) : Type 0 where
   pub objects : Each (IsLaidObject x) x.objects
   pub inside : Each (λ f. Each (IsLaidObject x) (objects_in f.body)) x.functions
   pub parameters : Each (λ f. Each (IsSized x) f.parameters) x.functions
+  pub signatures : Each (λ f. HasBlocks f.result × Each HasBlocks f.parameters) x.functions
   pub blocks : Each (λ f. ThroughoutStatement (λ a kind. HasBlocks a.ctype) f.body) x.functions

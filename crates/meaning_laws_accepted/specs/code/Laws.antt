@@ -22,8 +22,8 @@ pub record AcceptedAreFormed : Type 0 where
       (names : List (List ℕ)) (threads : ℕ) (unit : List External) (x : Checked)
       → outcome names threads unit ≡ Accepted x → IsFormedProgram x
 
--- In the program of each source that is accepted each object and each parameter has a layout, so that none counts as one
--- byte, and each block is at most 16,777,216 elements, so that none counts as fewer than it has.
+-- In the program of each source that is accepted each object and each parameter has a layout, so that none counts as
+-- one byte, and each block is at most 16,777,216 elements, so that none counts as fewer than it has.
 pub record AcceptedAreLaid : Type 0 where
   pub each :
       (names : List (List ℕ)) (threads : ℕ) (unit : List External) (x : Checked)
