@@ -9,7 +9,7 @@ use Rattle.block_layout.specs.declared.kind.Shape.{Shape}
 use Rattle.block_layout.specs.Pointers.{is_null, location, null}
 use Rattle.upc_values.specs.declared.scalar.Scalar.{Scalar}
 use Rattle.upc_values.specs.layer.Parts.{unless_refused}
-use Rattle.upc_values.specs.layer.Parts as parts
+use Rattle.upc_values.specs.layer.Parts as named
 use Rattle.upc_values.specs.declared.scalar.Scalar.TheVariants as scalar
 use Rattle.upc_values.specs.declared.scalar.Value.{Value}
 use Rattle.upc_values.specs.declared.scalar.Value.TheVariants as value
@@ -186,7 +186,7 @@ module _ (threads : ℕ) (shapes : List Shape) (me : ℕ) where
       refused_by_quiet
       ((list_any (λ part. leaves_range n part.into || leaves_range n part.from) parts, POINTER_RANGE)
       ∷ (
-        list_any (λ part. parts.outside threads shapes me n part.into || parts.outside threads shapes me n part.from)
+        list_any (λ part. named.outside threads shapes me n part.into || named.outside threads shapes me n part.from)
             parts,
         OUT_OF_OBJECT,
       )
@@ -204,7 +204,7 @@ module _ (threads : ℕ) (shapes : List Shape) (me : ℕ) where
   cells_quiet k ps e h =
       refused_by_quiet
       ((list_any (leaves_range (kind_size k)) ps, POINTER_RANGE)
-      ∷ (list_any (parts.outside threads shapes me (kind_size k)) ps, OUT_OF_OBJECT)
+      ∷ (list_any (named.outside threads shapes me (kind_size k)) ps, OUT_OF_OBJECT)
       ∷ (list_any (λ p. not (is_cell shapes k p)) ps, CELL_TYPE)
       ∷ [])
       e h
@@ -219,21 +219,21 @@ module _ (threads : ℕ) (shapes : List Shape) (me : ℕ) where
       → Quiet (Unit {0}) (x.permute threads shapes me dst src perm n)
   permute_quiet dst src perm n =
       let read = x.number_at threads shapes me kind.Int in
-      let ps = parts.permutation threads shapes me perm in
+      let ps = named.permutation threads shapes me perm in
       let own = byte_at dst n threads (me * n) in
       let some = not (n == 0) in
       let go : List ℤ → Expansion (Unit {0}) = λ vs. x.some_bytes threads shapes me n
       (x.move threads shapes me n (x.chosen threads shapes me dst src n vs ∷ [])) in
       let chosen : List ℤ → Expansion (Unit {0}) = λ vs. refused_by
-      ((not (each_thread threads (λ t. parts.is_at threads shapes me t vs)), LIBRARY_ARGS) ∷ []) (go vs) in
+      ((not (each_thread threads (λ t. named.is_at threads shapes me t vs)), LIBRARY_ARGS) ∷ []) (go vs) in
       refused_by_quiet
       ((list_any (leaves_range 4) ps || (some && leaves_range n own), POINTER_RANGE)
-      ∷ (list_any (parts.outside threads shapes me 4) ps || (some && parts.outside threads shapes me n own), OUT_OF_OBJECT)
+      ∷ (list_any (named.outside threads shapes me 4) ps || (some && named.outside threads shapes me n own), OUT_OF_OBJECT)
       ∷ (list_any (λ p. not (is_cell shapes kind.Int p)) ps || (some && x.cut threads shapes me n own), CELL_TYPE)
       ∷ [])
       (bind (gathered read ps) chosen)
       (then_quiet (gathered read ps) chosen (gathered_quiet read ps (number_quiet kind.Int)) (λ vs.
-      refused_by_quiet ((not (each_thread threads (λ t. parts.is_at threads shapes me t vs)), LIBRARY_ARGS) ∷ [])
+      refused_by_quiet ((not (each_thread threads (λ t. named.is_at threads shapes me t vs)), LIBRARY_ARGS) ∷ [])
       (go vs) (permuted_quiet dst src n vs)))
 
   outcome_quiet : (r : Result ℤ ℕ) → Quiet ℤ (x.outcome threads shapes me r)
