@@ -5,9 +5,8 @@ use Rattle.std.proofs.lemmas.List.{get_or_default}
 use Rattle.std.specs.Ordering.{int_eq}
 use Rattle.block_layout.specs.declared.place.ObjectRef.{ObjectRef}
 use Rattle.block_layout.specs.declared.place.SharedPtr.{SharedPtr}
-use Rattle.block_layout.specs.Pointers.{same_object}
+use Rattle.block_layout.specs.Pointers.{same_object, same_target}
 use Rattle.block_layout.proofs.Pointers.{same_object-true}
-use Rattle.upc_values.specs.History.{same_target}
 use Rattle.shared_heap.specs.layer.Heap.{HeapState, all_declared, start_of, is_live_start, with_released, without_object, IsHeap}
 use Rattle.shared_heap.specs.code.Kept.{IsKept}
 use Rattle.shared_heap.proofs.Objects.{AreNumbered, numbered-behind, opening-numbered}
