@@ -39,7 +39,7 @@ pub struct MemberNode {
 
 fn find_in<'s>(structs: &'s Structs, number: u32, name: &[u8]) -> Option<Found<'s>>
     ensures { view_found result
-        ≡ pure.find_member (view_structs structs.now) 0 0
+        ≡ pure.find_member (view_structs structs.now) number 0
         (types.members_of (view_structs structs.now) number) name.now }
 {
     match structs.member_named(number, name) {
