@@ -12,3 +12,4 @@ pub mod Coded
 pub mod Naming
 pub mod Fitting
 pub mod Making
+pub mod Starred
