@@ -13,3 +13,5 @@ pub mod Naming
 pub mod Fitting
 pub mod Making
 pub mod Starred
+pub mod MadeAlike
+pub mod Holding

@@ -7,3 +7,4 @@ pub mod Stars
 pub mod Depth
 pub mod Stored
 pub mod Falls
+pub mod MadeOf

@@ -7,6 +7,7 @@ mod conversion;
 mod copy;
 mod ctype;
 mod layout;
+mod made_alike;
 mod member_names;
 mod number_places;
 mod reaching;
