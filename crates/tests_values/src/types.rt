@@ -5,8 +5,8 @@ use std::alloc::{AllocError as OutOfMemory, Global};
 use std::test::Fail;
 use upc_text::Text;
 use upc_types::{
-    Access, Base, CType, Layout, Member, Structs, Target, assignable, castable, copy_type, object_shape,
-    same_type, shape_of, takes_allocation, to_shared_void, to_void_pointer, usual,
+    Access, Base, CType, Layout, Member, Structs, Target, assignable, castable, copy_type,
+    object_shape, same_type, shape_of, takes_allocation, to_shared_void, to_void_pointer, usual,
 };
 use upc_values::is_integer;
 

@@ -69,7 +69,7 @@ fn leaf_struct(structs: &Structs, t: &CType) -> Option<u32>
 }
 
 // Gives the shape of the elements of objects of this type a number. The shapes of the structs that are marked have one.
-#[tactic(auto, using(crate::proofs::Seen::has_number, crate::proofs::Seen::numbered_kept, crate::proofs::Seen::numbered_more))]
+#[tactic(auto, using(crate::proofs::Seen::has_number))]
 fn number_type(
     alloc: Global,
     structs: &Structs,
