@@ -1,5 +1,6 @@
--- Which element of an object a pointer-to-shared names (UPC 6.4.2, 6.5.1.1).
-use Rattle.std.specs.Prelude.{ℕ, zero, suc, ◌≡◌, ◌<◌, ◌==◌, ◌&&◌, Bool, ℤ, pos, ◌+ℤ◌, ◌*ℤ◌, unsigned_abs}
+-- Which element of an object a pointer-to-shared names, and the pointer some elements after it (UPC 6.4.2, 6.5.1.1).
+use Rattle.std.specs.Prelude.{ℕ, zero, suc, ◌+◌, ◌*◌, ◌≡◌, ◌<◌, ◌==◌, ◌&&◌, Bool}
+use Rattle.std.specs.Prelude.{ℤ, pos, ◌+ℤ◌, ◌-ℤ◌, ◌*ℤ◌, unsigned_abs}
 use Rattle.block_layout.specs.declared.place.ObjectRef.{ObjectRef}
 use Rattle.block_layout.specs.declared.place.SharedPtr.{SharedPtr}
 use Rattle.std.specs.Ordering.{int_eq}
@@ -31,6 +32,11 @@ abbrev pub same_pointer : SharedPtr → SharedPtr → Bool
 same_pointer p q =
     same_object p.object q.object && p.thread == q.thread && p.phase == q.phase && int_eq p.offset q.offset
 
+-- Whether two pointers-to-shared are equal as `p == q` compares them: they lead to the same byte of the same object,
+-- whatever their phases (UPC 6.4.2).
+abbrev pub same_target : SharedPtr → SharedPtr → Bool
+same_target p q = same_object p.object q.object && p.thread == q.thread && int_eq p.offset q.offset
+
 -- Whether a pointer-to-shared is null.
 abbrev pub is_null : SharedPtr → Bool
 is_null p = same_pointer p null
@@ -56,3 +62,23 @@ pub record StandsFor (p : SharedPtr) (e d : ℤ) (block size threads : ℕ) : Ty
 -- The location that a pointer names.
 abbrev pub location : SharedPtr → Loc
 location p = record { object = p.object.number; thread = p.thread; offset = unsigned_abs p.offset }
+
+-- The element that a pointer stands for, counted from the first element of the row of blocks in which it lies.
+abbrev pub element_in_row : SharedPtr → ℕ → ℕ
+element_in_row p block = p.thread * block + p.phase
+
+-- The bytes that lie on the pointer's thread before the row of blocks in which it lies.
+abbrev pub row_offset : SharedPtr → ℕ → ℤ
+row_offset p size = p.offset -ℤ pos (p.phase * size)
+
+-- The pointer that lies i elements after p, whose offset may be out of range (UPC 6.4.2).
+abbrev pub moved : SharedPtr → ℤ → ℕ → ℕ → ℕ → SharedPtr
+moved p i zero size threads = record p { offset = p.offset +ℤ i *ℤ pos size }
+moved p i (suc b) size threads =
+    let e = pos (element_in_row p (suc b)) +ℤ i in
+    record {
+      object = p.object;
+      thread = thread_at e (suc b) threads;
+      phase = phase_at e (suc b);
+      offset = offset_at e (suc b) size threads +ℤ row_offset p size;
+    }

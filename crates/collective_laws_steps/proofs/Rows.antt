@@ -67,6 +67,9 @@ same_element b T size e f z hb hT hs p q =
 same_offsets : (x y : ℤ) → IsFromZero x → IsFromZero y → unsigned_abs x ≡ unsigned_abs y → x ≡ y
 same_offsets x y h k e = h ∙ ap pos e ∙ sym k
 
+swapped : (x y : ℤ) → x +ℤ y ≡ y +ℤ x
+swapped x y = omega (arith, ints)
+
 -- Two elements of a view at one location are one.
 pub one_element : (p : SharedPtr) (b size T i j : ℕ) → 0 < size → 0 < T
     → IsFromZero (element p b size T i).offset → IsFromZero (element p b size T j).offset
@@ -76,10 +79,15 @@ one_element p zero size T i j hs hT h k e =
     (same_sums p.offset (i * size) (j * size)
     (same_offsets (p.offset +ℤ pos (i * size)) (p.offset +ℤ pos (j * size)) h k (ap (λ (l : Loc). l.offset) e)))
 one_element p (suc c) size T i j hs hT h k e =
-    let same = same_element (suc c) T size (p.thread * suc c + p.phase + i) (p.thread * suc c + p.phase + j)
-    (p.offset -ℤ pos (p.phase * size)) (omega arith) hT hs (ap (λ (l : Loc). l.thread) e)
-    (same_offsets (element p (suc c) size T i).offset (element p (suc c) size T j).offset h k
-    (ap (λ (l : Loc). l.offset) e)) in
+    let z : ℤ = p.offset -ℤ pos (p.phase * size) in
+    let bytes : ℕ → ℕ = λ n. ((p.thread * suc c + p.phase + n) / (suc c * T) * suc c
+    + (p.thread * suc c + p.phase + n) % suc c) * size in
+    let same = same_element (suc c) T size (p.thread * suc c + p.phase + i) (p.thread * suc c + p.phase + j) z
+    (omega arith) hT hs (ap (λ (l : Loc). l.thread) e)
+    (swapped z (pos (bytes i))
+    ∙ same_offsets (element p (suc c) size T i).offset (element p (suc c) size T j).offset h k
+    (ap (λ (l : Loc). l.offset) e)
+    ∙ swapped (pos (bytes j)) z) in
     omega (arith, same)
 
 -- ---- bytes
@@ -125,10 +133,13 @@ byte_behind p (suc c) T x r hT h =
     let sum : f ≡ e + r = omega arith in
     let quotients : f / suc c ≡ e / suc c = ap (λ n. n / suc c) sum ∙ next.0 in
     let rests : f % suc c ≡ e % suc c + r = ap (λ n. n % suc c) sum ∙ next.1 in
+    let z : ℤ = p.offset -ℤ pos (0 * 1) in
+    let bytes : ℕ → ℕ = λ n. (n / (suc c * T) * suc c + n % suc c) * 1 in
     record {
       object = refl;
       thread = ap (λ n. n % T) quotients;
-      offset = offset_further (p.offset -ℤ pos (0 * 1)) (suc c) T e f r quotients rests;
+      offset = swapped (pos (bytes f)) z ∙ offset_further z (suc c) T e f r quotients rests
+          ∙ ap (λ y. y +ℤ pos r) (swapped z (pos (bytes e)));
     }
 
 sum_from_zero : (z : ℤ) (r : ℕ) → IsFromZero z → z +ℤ pos r ≡ pos (unsigned_abs (z +ℤ pos r))

@@ -32,9 +32,8 @@ use Rattle.thread_steps.specs.Accesses as x
 use Rattle.thread_steps.specs.declared.elements.Elements.{Elements}
 use Rattle.thread_steps.specs.Pointers.{phased, shared_value, local_value, local_moved, advanced, advance}
 use Rattle.thread_steps.specs.Pointers.{member_behind, member}
-use Rattle.shared_pointers.specs.Steps.{moved, element_in_row}
 use Rattle.shared_pointers.specs.layer.Parts.{member_pointer}
-use Rattle.block_layout.specs.Pointers.{is_null}
+use Rattle.block_layout.specs.Pointers.{is_null, element_in_row, moved}
 use Rattle.block_layout.specs.Places.{in_range}
 use Rattle.block_layout.specs.declared.run_error.TheConstants.{NULL_ACCESS, POINTER_RANGE}
 use Rattle.block_layout.proofs.Numbers.{floor_mod-below}

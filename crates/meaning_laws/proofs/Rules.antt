@@ -88,17 +88,17 @@ or_other : (b c : Bool) → b ≡ false → (b || c) ≡ true → c ≡ true
 or_other true c e h = absurd (false≢true (sym e))
 or_other false c e h = h
 
-found : (σ : Structs) (i end : ℕ) (ms : List Member) (name : List ℕ) → has_name ms name ≡ true
-    → (f : Found) × (find_member σ i end ms name ≡ Some f)
-found σ i end [] name h = absurd (false≢true h)
-found σ i end (x ∷ ms) name h =
+found : (σ : Structs) (number i : ℕ) (ms : List Member) (name : List ℕ) → has_name ms name ≡ true
+    → (f : Found) × (find_member σ number i ms name ≡ Some f)
+found σ number i [] name h = absurd (false≢true h)
+found σ number i (x ∷ ms) name h =
     find_by (pointwise nat_eq x.name name) _ _ (λ e.
-    found σ (i + 1) _ ms name (or_other (pointwise nat_eq x.name name) (has_name ms name) e h))
+    found σ number (i + 1) ms name (or_other (pointwise nat_eq x.name name) (has_name ms name) e h))
 
 -- A struct that has a member of this name.
 pub member_found : (σ : Structs) (t : CType) (name : List ℕ) → names_member σ t name ≡ true
     → (f : Found) × (member_named σ t name ≡ Some f)
-member_found σ (Qualified (types.Struct number) c s x) name h = found σ 0 0 (members_of σ number) name h
+member_found σ (Qualified (types.Struct number) c s x) name h = found σ number 0 (members_of σ number) name h
 member_found σ (Qualified types.Void c s x) name h = absurd (false≢true h)
 member_found σ (Qualified (types.Integer k) c s x) name h = absurd (false≢true h)
 member_found σ (Qualified (types.Array t count) c s x) name h = absurd (false≢true h)

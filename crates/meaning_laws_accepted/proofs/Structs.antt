@@ -53,17 +53,17 @@ either_found : (b : Bool) (o p : Option Found) → IsFoundFormed o → IsFoundFo
 either_found true o p h i = h
 either_found false o p h i = i
 
-find_formed : (σ : Structs) (index end : ℕ) (ms : List Member) (name : List ℕ) → Each IsMember ms
-    → IsFoundFormed (find_member σ index end ms name)
-find_formed σ index end [] name h = tt
-find_formed σ index end (x ∷ ms) name h =
-    either_found (pointwise nat_eq x.name name) _ _ h.0 (find_formed σ (index + 1) _ ms name h.1)
+find_formed : (σ : Structs) (number index : ℕ) (ms : List Member) (name : List ℕ) → Each IsMember ms
+    → IsFoundFormed (find_member σ number index ms name)
+find_formed σ number index [] name h = tt
+find_formed σ number index (x ∷ ms) name h =
+    either_found (pointwise nat_eq x.name name) _ _ h.0 (find_formed σ number (index + 1) ms name h.1)
 
 of_formed : (σ : Structs) (number : Option ℕ) (name : List ℕ) → AreFormedStructs σ.completed
     → IsFoundFormed (member_of σ number name)
 of_formed σ None name h = tt
 of_formed σ (Some number) name h =
-    find_formed σ 0 0 (members_in σ.completed number) name (members_formed σ.completed number h)
+    find_formed σ number 0 (members_in σ.completed number) name (members_formed σ.completed number h)
 
 pub named_formed : (σ : Structs) (t : CType) (name : List ℕ) → AreFormedStructs σ.completed
     → IsFoundFormed (member_named σ t name)

@@ -1,7 +1,7 @@
 //! The bytes before members (C99 6.7.2.1).
 
 ghost use Rattle.std.specs.Prelude.{◌≡◌};
-ghost use Rattle.upc_types.specs.Types.{members_of};
+ghost use Rattle.upc_types.specs.Layout as layout;
 ghost use Rattle.upc_types.specs.View.{view};
 ghost use Rattle.upc_types.specs.ViewStructs.{view_structs};
 ghost use Rattle.typing_rules.specs.layer.Views.{view_target};
@@ -10,13 +10,11 @@ ghost use Rattle.source_meaning.specs.layer.Parts as parts;
 
 use upc_types::{Base, CType, Structs};
 
-// The bytes before a member of a struct, by their numbers.
+// The bytes before a member of a struct, by their numbers; one that is incomplete has no members.
 fn offset_in(structs: &Structs, number: u32, index: u32) -> u32
-    ensures { result ≡ pure.offset_from (view_structs structs.now) 0 index
-        (members_of (view_structs structs.now) number) }
+    ensures { result ≡ layout.member_offset (view_structs structs.now) number index }
 {
-    let count = structs.members(number).len();
-    if (index as usize) < count && structs.is_complete(&Base::Struct(number)) {
+    if structs.is_complete(&Base::Struct(number)) {
         structs.member_offset(number, index)
     } else {
         0

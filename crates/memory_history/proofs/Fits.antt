@@ -6,7 +6,7 @@ use Rattle.block_layout.specs.declared.place.SharedPtr.{SharedPtr}
 use Rattle.block_layout.specs.declared.kind.Shape.{Shape}
 use Rattle.block_layout.specs.declared.run_error.TheConstants.{BARRIER_MISMATCH, LOCK_AGAIN, LOCK_NOT_HELD, LOCK_FREED, BAD_FREE, COLLECTIVE_MISMATCH, SHARED_SPACE}
 use Rattle.block_layout.specs.Places.{in_range}
-use Rattle.block_layout.specs.Pointers.{null, is_null}
+use Rattle.block_layout.specs.Pointers.{null, is_null, same_target}
 use Rattle.upc_values.specs.declared.scalar.Scalar.{Scalar}
 use Rattle.upc_values.specs.declared.scalar.Scalar.TheVariants.{Shared, Lock}
 use Rattle.upc_values.specs.declared.scalar.Mark.{Mark}
@@ -18,7 +18,7 @@ use Rattle.upc_values.specs.declared.journal.Entry.{Entry}
 use Rattle.upc_values.specs.Lists.{Has}
 use Rattle.upc_values.specs.Calls.{Call, Allocates, Makes_lock, Frees, Frees_lock, call_of}
 use Rattle.upc_values.specs.Openings.{Opening, IsOpening, bytes_of}
-use Rattle.upc_values.specs.History.{Lead, objects, made, alloc_reply, locks, is_freed, is_given_up, holder, lock_reply, unlock_reply, same_target, is_released, allocated, free_reply, each_thread, agrees_with, marks, all_notified, waits, wait_reply, led_reply, same_call, notifies, meets, leader, meet_reply, reply, IsLegal}
+use Rattle.upc_values.specs.History.{Lead, objects, made, alloc_reply, locks, is_freed, is_given_up, holder, lock_reply, unlock_reply, is_released, allocated, free_reply, each_thread, agrees_with, marks, all_notified, waits, wait_reply, led_reply, same_call, notifies, meets, leader, meet_reply, reply, IsLegal}
 use Rattle.upc_values.specs.Formed.{is_home, may_alloc, may_call, is_pointer, is_start, fits_call, fits, fits_after, IsWellFormed, AreWellFormed}
 use Rattle.upc_values.proofs.Membership.{has-cases}
 use Rattle.memory_history.proofs.Entries.{Keeps, by_entries, has-single, leader-has}

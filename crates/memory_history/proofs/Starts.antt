@@ -16,7 +16,8 @@ use Rattle.upc_values.specs.Scalars.{same_scalar}
 use Rattle.upc_values.specs.Calls.{Other, call_of}
 use Rattle.upc_values.specs.Drain.{entry_of}
 use Rattle.upc_values.specs.Openings.{Opening}
-use Rattle.upc_values.specs.History.{picked, asked, meets, Lead, leader, led, pointer_of, makes, object_of, made, same_target, is_released, allocated, same_list, same_call, notifies, meet_reply, reply, IsLegal}
+use Rattle.upc_values.specs.History.{picked, asked, meets, Lead, leader, led, pointer_of, makes, object_of, made, is_released, allocated, same_list, same_call, notifies, meet_reply, reply, IsLegal}
+use Rattle.block_layout.specs.Pointers.{same_target}
 use Rattle.upc_values.specs.Formed.{AreWellFormed}
 use Rattle.upc_values.proofs.Sameness.{same_scalar-true}
 use Rattle.upc_values.proofs.Membership.{has-left, has-right, has-cases, has-filter}

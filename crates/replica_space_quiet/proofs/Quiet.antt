@@ -7,7 +7,7 @@ use Rattle.std.proofs.lemmas.Bool.{cases_Bool, cond-false, false≢true}
 use Rattle.block_layout.specs.declared.place.Loc.{Loc}
 use Rattle.block_layout.specs.declared.place.ObjectRef.{ObjectRef}
 use Rattle.block_layout.specs.declared.place.SharedPtr.{SharedPtr}
-use Rattle.block_layout.specs.Pointers.{null, is_null}
+use Rattle.block_layout.specs.Pointers.{null, is_null, same_target}
 use Rattle.block_layout.specs.declared.run_error.TheConstants.{LOCK_FREED, BARRIER_MISMATCH, COLLECTIVE_MISMATCH, BAD_FREE, SHARED_SPACE}
 use Rattle.upc_values.specs.declared.scalar.Scalar.{Scalar}
 use Rattle.upc_values.specs.declared.scalar.Scalar.TheVariants as scalar
@@ -245,9 +245,9 @@ any-same f g h (x ∷ xs) = ap (λ b. b || list_any f xs) (h x) ∙ ap (λ b. g 
 free-loud : (es : List Entry) (p : SharedPtr) → free_reply (loud es) p ≡ free_reply es p
 free-loud es p =
     ap (λ b. cond b Done (Refused BAD_FREE))
-    (any-same (λ q. history.same_target p q && not (is_released q.object.number (loud es))) (λ q. history.same_target p q && not (is_released q.object.number es))
-    (λ q. ap (λ b. history.same_target p q && not b) (released-loud q.object.number es)) (allocated (loud es))
-    ∙ ap (list_any (λ q. history.same_target p q && not (is_released q.object.number es))) (allocated-loud es))
+    (any-same (λ q. same_target p q && not (is_released q.object.number (loud es))) (λ q. same_target p q && not (is_released q.object.number es))
+    (λ q. ap (λ b. same_target p q && not b) (released-loud q.object.number es)) (allocated (loud es))
+    ∙ ap (list_any (λ q. same_target p q && not (is_released q.object.number es))) (allocated-loud es))
 
 led_reply-loud : (o : Opening) (es : List Entry) (c : Call) → led_reply o (loud es) c ≡ led_reply o es c
 led_reply-loud o es (Allocates n b s) = ap (cond (n * b == 0) (Value (scalar.Shared null))) (alloc-loud o es n b None s)

@@ -5,9 +5,8 @@ use Rattle.std.proofs.lemmas.List.{get_or_default}
 use Rattle.std.specs.Ordering.{int_eq}
 use Rattle.block_layout.specs.declared.place.ObjectRef.{ObjectRef}
 use Rattle.block_layout.specs.declared.place.SharedPtr.{SharedPtr}
-use Rattle.block_layout.specs.Pointers.{same_object}
+use Rattle.block_layout.specs.Pointers.{same_object, same_target}
 use Rattle.block_layout.proofs.Pointers.{same_object-true}
-use Rattle.upc_values.specs.History.{same_target}
 use Rattle.shared_heap.specs.layer.Heap.{HeapState, all_declared, start_of, is_live_start, with_released, without_object, IsHeap}
 use Rattle.shared_heap.specs.code.Kept.{IsKept}
 use Rattle.shared_heap.proofs.Objects.{AreNumbered, numbered-behind, opening-numbered}
@@ -15,8 +14,9 @@ use Rattle.shared_heap.proofs.Objects.{AreNumbered, numbered-behind, opening-num
 other-start : (p : SharedPtr) (x : ObjectRef) → (p.object.number ≡ x.number → ⊥) → same_target p (start_of x) ≡ false
 other-start p x h =
     false_from_ne_true (same_target p (start_of x))
-    (λ q. let a = and_parts (same_object p.object x) ((p.thread == x.home) && int_eq p.offset (start_of x).offset) q in
-    h (ap (λ z. z.number) (same_object-true p.object x a.0)))
+    (λ q. let a = and_parts (same_object p.object x && (p.thread == x.home)) (int_eq p.offset (start_of x).offset) q in
+    let b = and_parts (same_object p.object x) (p.thread == x.home) a.0 in
+    h (ap (λ z. z.number) (same_object-true p.object x b.0)))
 
 or-false : (b : Bool) → (b || false) ≡ b
 or-false true = refl

@@ -5,7 +5,7 @@ ghost use Rattle.std.specs.Prelude.{IfOk, OnErr, IfSome, IfNone};
 ghost use Rattle.upc_values.specs.declared.scalar.Scalar.TheVariants.{Shared};
 ghost use Rattle.upc_values.specs.declared.action.Reply.TheVariants as reply;
 ghost use Rattle.upc_values.specs.Openings.{bytes_of};
-ghost use Rattle.upc_values.specs.History.{same_target};
+ghost use Rattle.block_layout.specs.Pointers.{same_target};
 ghost use Rattle.upc_values.specs.Formed.{may_alloc, is_home};
 ghost use Rattle.shared_heap.specs.layer.Heap as said;
 ghost use Rattle.shared_heap.specs.layer.Heap.{all_objects};

@@ -6,10 +6,10 @@ use Rattle.block_layout.specs.Floor.{floor_div}
 use Rattle.block_layout.specs.Places.{thread_at, phase_at, offset_at}
 use Rattle.block_layout.proofs.Pointers.{pointer-fields}
 use Rattle.block_layout.specs.declared.place.SharedPtr.{SharedPtr}
-use Rattle.block_layout.specs.Pointers.{StandsFor}
+use Rattle.block_layout.specs.Pointers.{StandsFor, element_in_row, moved, row_offset}
 use Rattle.shared_pointers.specs.layer.Ranges.{IsPhase}
 use Rattle.shared_pointers.specs.layer.Parts.{moved_by_blocks}
-use Rattle.shared_pointers.specs.Steps.{LiesBehind, apart, moved, element_in_row, row_offset}
+use Rattle.shared_pointers.specs.Steps.{LiesBehind, apart}
 use Rattle.block_layout.proofs.Numbers.{floor_div-unique, floor_mod-unique, floor_mod-below, mul-sum, mul-twice, row-below, by_row, floor_div-twice}
 
 -- The element t blocks of b and ph further in row R.

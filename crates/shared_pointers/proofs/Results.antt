@@ -8,11 +8,11 @@ use Rattle.std.specs.Ordering.{int_cmp}
 use Rattle.block_layout.specs.declared.place.SharedPtr.{SharedPtr}
 use Rattle.block_layout.specs.declared.run_error.TheConstants.{NULL_ACCESS, POINTER_RANGE, POINTER_PAIR}
 use Rattle.block_layout.specs.Places.{InRange, in_range}
-use Rattle.block_layout.specs.Pointers.{StandsFor, IsNull, is_null, null, element_offset, same_pointer}
+use Rattle.block_layout.specs.Pointers.{StandsFor, IsNull, is_null, null, element_offset, same_pointer, moved}
 use Rattle.block_layout.proofs.Pointers.{same_pointer-true, same_pointer-refl, null-false}
 use Rattle.block_layout.proofs.Ranges.{in_range-true, in_range-false}
 use Rattle.shared_pointers.specs.layer.Ranges.{IsPhase}
-use Rattle.shared_pointers.specs.Steps.{LiesBehind, moved, advanced, apart, difference, order_of}
+use Rattle.shared_pointers.specs.Steps.{LiesBehind, advanced, apart, difference, order_of}
 use Rattle.shared_pointers.proofs.Elements.{moved-behind, moved-stands, behind-moved, apart-moved}
 
 -- The test of null.

@@ -1,12 +1,11 @@
--- Members, casts and equality of pointers-to-shared (UPC 6.4.2, 6.4.3, 6.4.4).
-use Rattle.std.specs.Prelude.{ℕ, ◌==◌, ◌&&◌, Bool, if◌then◌else◌, pos, ◌+ℤ◌, Result, Ok, Err}
-use Rattle.std.specs.Ordering.{int_eq}
+-- Members and casts of pointers-to-shared (UPC 6.4.2, 6.4.3, 6.4.4).
+use Rattle.std.specs.Prelude.{ℕ, ◌==◌, if◌then◌else◌, pos, ◌+ℤ◌, Result, Ok, Err}
 use Rattle.block_layout.specs.declared.place.SharedPtr.{SharedPtr}
 use Rattle.block_layout.specs.declared.place.LocalPtr.{LocalPtr}
 use Rattle.block_layout.specs.declared.place.LocalPtr.TheVariants.{Null, Shared}
 use Rattle.block_layout.specs.declared.run_error.TheConstants.{NULL_ACCESS, NOT_LOCAL, POINTER_RANGE}
 use Rattle.block_layout.specs.Places.{in_range}
-use Rattle.block_layout.specs.Pointers.{is_null, same_object}
+use Rattle.block_layout.specs.Pointers.{is_null}
 
 -- What `&p->m` gives: the pointer to the member, where its offset is in range (C99 6.5.2.3, UPC 6.4.4).
 abbrev pub member_of : SharedPtr → ℕ → Result SharedPtr ℕ
@@ -32,7 +31,3 @@ cast_block p from into =
 abbrev pub local_of : SharedPtr → ℕ → Result LocalPtr ℕ
 local_of p me =
     if is_null p then Ok Null else if p.thread == me then Ok (Shared p.object p.thread p.offset) else Err NOT_LOCAL
-
--- What `p == q` gives: the same bytes of the same object, whatever the phases (UPC 6.4.2).
-abbrev pub same_target : SharedPtr → SharedPtr → Bool
-same_target p q = same_object p.object q.object && p.thread == q.thread && int_eq p.offset q.offset

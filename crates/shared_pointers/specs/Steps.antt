@@ -1,13 +1,13 @@
 -- Pointer-to-shared arithmetic (UPC 6.4.2), by the elements that pointers stand for.
-use Rattle.std.specs.Prelude.{ℕ, zero, suc, ◌+◌, ◌*◌, ◌≡◌, ◌&&◌, not, if◌then◌else◌, ℤ, pos, ◌+ℤ◌, ◌-ℤ◌, ◌*ℤ◌, Result}
-use Rattle.std.specs.Prelude.{Ok, Err}
+use Rattle.std.specs.Prelude.{ℕ, zero, suc, ◌*◌, ◌≡◌, ◌&&◌, not, if◌then◌else◌, ℤ, pos, ◌+ℤ◌, ◌-ℤ◌, ◌*ℤ◌}
+use Rattle.std.specs.Prelude.{Result, Ok, Err}
 use Rattle.block_layout.specs.declared.place.SharedPtr.{SharedPtr}
 use Rattle.std.specs.declared.cmp.Ordering.{Ordering}
 use Rattle.std.specs.Ordering.{int_cmp}
 use Rattle.block_layout.specs.Floor.{floor_div}
 use Rattle.block_layout.specs.declared.run_error.TheConstants.{NULL_ACCESS, POINTER_RANGE, POINTER_PAIR}
-use Rattle.block_layout.specs.Places.{thread_at, phase_at, offset_at, in_range}
-use Rattle.block_layout.specs.Pointers.{StandsFor, is_null, same_pointer}
+use Rattle.block_layout.specs.Places.{in_range}
+use Rattle.block_layout.specs.Pointers.{StandsFor, is_null, same_pointer, element_in_row, row_offset, moved}
 
 -- The pointer q lies x elements after p: it is in p's object, with an indefinite block on p's thread, and stands for
 -- the element of p plus x, with p's shift (UPC 6.4.2).
@@ -15,26 +15,6 @@ pub record LiesBehind (p q : SharedPtr) (x : ℤ) (block size threads : ℕ) : T
   pub object : q.object ≡ p.object
   pub thread : block ≡ 0 → q.thread ≡ p.thread
   pub element : (e d : ℤ) → StandsFor p e d block size threads → StandsFor q (e +ℤ x) d block size threads
-
--- The element that a pointer stands for, counted from the first element of the row of blocks in which it lies.
-abbrev pub element_in_row : SharedPtr → ℕ → ℕ
-element_in_row p block = p.thread * block + p.phase
-
--- The bytes that lie on the pointer's thread before the row of blocks in which it lies.
-abbrev pub row_offset : SharedPtr → ℕ → ℤ
-row_offset p size = p.offset -ℤ pos (p.phase * size)
-
--- The pointer that lies i elements after p (UPC 6.4.2).
-abbrev pub moved : SharedPtr → ℤ → ℕ → ℕ → ℕ → SharedPtr
-moved p i zero size threads = record p { offset = p.offset +ℤ i *ℤ pos size }
-moved p i (suc b) size threads =
-    let e = pos (element_in_row p (suc b)) +ℤ i in
-    record {
-      object = p.object;
-      thread = thread_at e (suc b) threads;
-      phase = phase_at e (suc b);
-      offset = offset_at e (suc b) size threads +ℤ row_offset p size;
-    }
 
 -- What `p + i` gives: the pointer moved, where its offset is in range (UPC 6.4.2).
 abbrev pub advanced : SharedPtr → ℤ → ℕ → ℕ → ℕ → Result SharedPtr ℕ

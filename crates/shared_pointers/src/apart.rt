@@ -2,10 +2,10 @@
 
 ghost use Rattle.std.specs.Prelude.{◌≡◌, ◌*◌, ◌<◌, ◌≤◌, ◌^◌, ◌↔◌, ℤ, pos, ◌-ℤ◌, ◌*ℤ◌, Ok, IfErr, unsigned_abs};
 ghost use Rattle.block_layout.specs.Floor.{floor_div};
-ghost use Rattle.block_layout.specs.Pointers.{IsNull, same_pointer};
+ghost use Rattle.block_layout.specs.Pointers.{IsNull, same_pointer, element_in_row, row_offset};
 ghost use Rattle.shared_pointers.specs.layer.Ranges.{IsPointer, IsTarget, IsThreads};
 ghost use Rattle.shared_pointers.specs.layer.Parts.{apart_by_blocks};
-ghost use Rattle.shared_pointers.specs.Steps.{element_in_row, row_offset, LiesBehind, apart};
+ghost use Rattle.shared_pointers.specs.Steps.{LiesBehind, apart};
 ghost use Rattle.shared_pointers.specs.Steps.{difference};
 
 use crate::row::{element_in_row, row_offset};

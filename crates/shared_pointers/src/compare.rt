@@ -2,10 +2,9 @@
 
 ghost use Rattle.std.specs.Prelude.{◌≡◌, ◌↔◌, ℤ, pos, Ok, IfOk, IfErr, IsTrue};
 ghost use Rattle.std.specs.Ordering.{int_cmp};
-ghost use Rattle.block_layout.specs.Pointers.{IsNull};
+ghost use Rattle.block_layout.specs.Pointers.{IsNull, same_target};
 ghost use Rattle.shared_pointers.specs.layer.Ranges.{IsPointer, IsTarget, IsThreads};
 ghost use Rattle.shared_pointers.specs.Steps.{LiesBehind, difference, order_of};
-ghost use Rattle.shared_pointers.specs.Casts.{same_target};
 
 use crate::apart::distance;
 use block_layout::SharedPtr;

@@ -2,7 +2,7 @@
 
 ghost use Rattle.std.specs.Prelude.{◌≡◌, ◌≤◌, ◌^◌, unsigned_abs};
 ghost use Rattle.shared_pointers.specs.layer.Ranges.{IsPointer, IsTarget, IsThreads};
-ghost use Rattle.shared_pointers.specs.Steps.{element_in_row, row_offset};
+ghost use Rattle.block_layout.specs.Pointers.{element_in_row, row_offset};
 
 use block_layout::SharedPtr;
 

@@ -2,10 +2,10 @@
 
 ghost use Rattle.std.specs.Prelude.{◌≡◌, ◌<◌, ◌↔◌, ℤ, ◌+ℤ◌, IfOk, IfErr, IsErrOf, ◌⊎◌};
 ghost use Rattle.block_layout.specs.Places.{InRange};
-ghost use Rattle.block_layout.specs.Pointers.{IsNull, StandsFor, element_offset};
+ghost use Rattle.block_layout.specs.Pointers.{IsNull, StandsFor, element_offset, moved};
 ghost use Rattle.shared_pointers.specs.layer.Ranges.{IsPhase, IsPointer, IsTarget, IsThreads, IsStep};
 ghost use Rattle.shared_pointers.specs.layer.Parts.{moved_by_blocks};
-ghost use Rattle.shared_pointers.specs.Steps.{LiesBehind, moved, advanced};
+ghost use Rattle.shared_pointers.specs.Steps.{LiesBehind, advanced};
 
 use crate::row::{element_in_row, row_offset};
 use block_layout::run_error::{NULL_ACCESS, POINTER_RANGE};

@@ -1,15 +1,14 @@
 -- What the types of a program say to its meaning: kinds of cells, elements of pointers, shapes of objects, conversions.
-use Rattle.std.specs.Prelude.{ℕ, zero, suc, ◌+◌, min, Bool, true, false, if◌then◌else◌, List, [], ◌∷◌}
-use Rattle.std.specs.Prelude.{Option, Some, None, is_some}
+use Rattle.std.specs.Prelude.{ℕ, min, Bool, true, false, if◌then◌else◌, List, [], ◌∷◌, Option, Some, None, is_some}
 use Rattle.block_layout.specs.declared.kind.Kind.{Kind}
 use Rattle.block_layout.specs.declared.kind.Kind.TheVariants as kind
 use Rattle.block_layout.specs.declared.kind.Shape.{Shape}
 use Rattle.upc_types.specs.declared.ctype.Access.TheVariants.{Unsaid, Strict, Relaxed}
 use Rattle.upc_types.specs.declared.layout.Layout.{Layout}
-use Rattle.upc_types.specs.Types.{CType, Base, Integer, Struct, Pointer, base_of, block_of, access_of, Member, Structs}
-use Rattle.upc_types.specs.Types.{members_of}
+use Rattle.upc_types.specs.Types.{CType, Base, Integer, Struct, Pointer, base_of, block_of, access_of, Structs}
 use Rattle.upc_types.specs.Same.{same_block, is_lock_object}
-use Rattle.upc_types.specs.Layout.{base_within, base_layout, layout_in, aligned}
+use Rattle.upc_types.specs.Layout as layout
+use Rattle.upc_types.specs.Layout.{base_within}
 use Rattle.upc_types.specs.Cells.{leaf_base, object_shape}
 use Rattle.upc_types.specs.Arithmetic.{promoted}
 use Rattle.typing_rules.specs.declared.library.LibraryParameter.{LibraryParameter}
@@ -103,15 +102,6 @@ module _ (structs : Structs) where
     size = elim (base_within structs.completed (leaf_base (base_of target))) [ Some l ↦ l.size | None ↦ 1 ];
   }
 
-  -- The bytes before the member with this number, where `end` bytes of the struct stand before the first of these
-  -- (C99 6.7.2.1).
-  abbrev pub offset_from : ℕ → ℕ → List Member → ℕ
-  offset_from end n [] = 0
-  offset_from end zero (m ∷ ms) = aligned end (base_layout (layout_in structs.completed) (base_of m.ctype)).align
-  offset_from end (suc n) (m ∷ ms) =
-      let l = base_layout (layout_in structs.completed) (base_of m.ctype) in
-      offset_from (aligned end l.align + l.size) n ms
-
   -- The bytes before member n of a struct of this type, 0 where there is no struct (C99 6.7.2.1).
   abbrev pub member_offset : CType → ℕ → ℕ
-  member_offset t n = elim (base_of t) [ Struct s ↦ offset_from 0 n (members_of structs s) | _ ↦ 0 ]
+  member_offset t n = elim (base_of t) [ Struct s ↦ layout.member_offset structs s n | _ ↦ 0 ]

@@ -17,12 +17,11 @@ use Rattle.block_layout.specs.declared.place.SharedPtr.{SharedPtr}
 use Rattle.block_layout.specs.declared.run_error.TheConstants.{POINTER_PAIR}
 use Rattle.block_layout.specs.Floor.{floor_div}
 use Rattle.block_layout.specs.Places.{InRange, in_range}
-use Rattle.block_layout.specs.Pointers.{null, is_null, same_object}
+use Rattle.block_layout.specs.Pointers.{null, is_null, same_object, element_in_row, row_offset}
 use Rattle.block_layout.proofs.Pointers.{same_pointer-true}
 use Rattle.block_layout.proofs.Ranges.{in_range-true}
 use Rattle.shared_pointers.specs.layer.Ranges.{IsTarget}
 use Rattle.shared_pointers.specs.Steps as step
-use Rattle.shared_pointers.specs.Steps.{element_in_row, row_offset}
 use Rattle.shared_pointers.proofs.Bounds.{row-near}
 use Rattle.upc_values.specs.declared.scalar.Scalar.TheVariants.{Shared}
 use Rattle.upc_values.specs.declared.scalar.Value.{Value}

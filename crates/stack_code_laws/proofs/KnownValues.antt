@@ -15,10 +15,9 @@ use Rattle.block_layout.specs.declared.run_error.TheConstants.{NULL_ACCESS, POIN
 use Rattle.block_layout.specs.Floor.{floor_div}
 use Rattle.block_layout.specs.Places.{InRange, in_range}
 use Rattle.block_layout.proofs.Ranges.{in_range-false}
-use Rattle.block_layout.specs.Pointers.{null, is_null, same_object}
+use Rattle.block_layout.specs.Pointers.{null, is_null, same_object, element_in_row, moved}
 use Rattle.block_layout.proofs.Numbers.{floor_mod-below}
 use Rattle.block_layout.proofs.Pointers.{same_pointer-true}
-use Rattle.shared_pointers.specs.Steps.{moved, element_in_row}
 use Rattle.shared_pointers.specs.layer.Parts.{member_pointer}
 use Rattle.upc_values.specs.declared.scalar.Scalar.{Scalar}
 use Rattle.upc_values.specs.declared.scalar.Scalar.TheVariants.{Int, Shared, Lock}

@@ -2,12 +2,11 @@
 
 use block_layout::{Kind, Shape};
 use std::alloc::{AllocError as OutOfMemory, Global};
-use std::rc::Rc;
 use std::test::Fail;
 use upc_text::Text;
 use upc_types::{
-    Access, Base, CType, Layout, Member, Structs, assignable, castable, copy_type, object_shape,
-    same_type, shape_of, takes_allocation, to_shared_void, to_void_pointer, usual,
+    Access, Base, CType, Layout, Member, Structs, Target, assignable, castable, copy_type,
+    object_shape, same_type, shape_of, takes_allocation, to_shared_void, to_void_pointer, usual,
 };
 use upc_values::is_integer;
 
@@ -30,11 +29,11 @@ fn shared(base: Base, block: u32) -> CType {
 }
 
 fn pointer(alloc: Global, target: CType) -> Result<CType, OutOfMemory> {
-    Ok(plain(Base::Pointer(Rc::new(alloc, target)?)))
+    Ok(plain(Base::Pointer(Target::new(alloc, target)?)))
 }
 
 fn array(alloc: Global, element: CType, count: u32) -> Result<CType, OutOfMemory> {
-    Ok(plain(Base::Array(Rc::new(alloc, element)?, count)))
+    Ok(plain(Base::Array(Target::new(alloc, element)?, count)))
 }
 
 // Types of the tables below.
@@ -509,6 +508,38 @@ fn a_long_chain_of_pointers(rt: HostRuntime) -> Result<(), Fail> {
         t = pointer(rt.alloc(), t)?;
     }
     assert!(rt; is_copied(&t)?);
+    Ok(())
+}
+
+// A type of so many stars, whose targets have qualifiers in turn; the target of the star at this place is const where
+// that of the others is not, and not const where theirs is.
+fn starred(alloc: Global, stars: u32, changed: u32) -> Result<CType, OutOfMemory> {
+    let mut t = plain(Base::Integer(Kind::Int));
+    for i in 0..stars {
+        t.constant = (i % 7 == 0) != (i == changed);
+        if i % 11 == 0 {
+            t.access = Access::Strict;
+        }
+        if i % 13 == 0 {
+            t.shared = Some(i % 5);
+        }
+        if i % 17 == 0 {
+            t.shared = Some(100);
+        }
+        t = pointer(alloc, t)?;
+    }
+    Ok(t)
+}
+
+#[test]
+fn types_of_many_stars(rt: HostRuntime) -> Result<(), Fail> {
+    let a = rt.alloc();
+    let t = starred(a, 500, 500)?;
+    assert!(rt; same_type(&t, &starred(a, 500, 500)?));
+    assert!(rt; !same_type(&t, &starred(a, 501, 501)?));
+    for changed in 0..500 {
+        assert!(rt; !same_type(&t, &starred(a, 500, changed)?));
+    }
     Ok(())
 }
 

@@ -11,11 +11,11 @@ use Rattle.block_layout.specs.declared.run_error.TheConstants.{NULL_ACCESS, POIN
 use Rattle.block_layout.specs.declared.run_error.TheConstants.{OUT_OF_OBJECT, PRIVATE_RANGE}
 use Rattle.block_layout.specs.Floor.{floor_div}
 use Rattle.block_layout.specs.Places.{in_range}
-use Rattle.block_layout.specs.Pointers.{same_object}
+use Rattle.block_layout.specs.Pointers.{same_object, same_target}
 use Rattle.integers.specs.declared.operator.BinOp.{BinOp}
 use Rattle.integers.specs.Operators.{binary_of}
 use Rattle.shared_pointers.specs.Steps as step
-use Rattle.shared_pointers.specs.Casts.{member_of, same_target}
+use Rattle.shared_pointers.specs.Casts.{member_of}
 use Rattle.upc_values.specs.declared.scalar.Scalar.TheVariants.{Int, Shared, Lock}
 use Rattle.upc_values.specs.declared.scalar.Value.{Value}
 use Rattle.upc_values.specs.declared.scalar.Value.TheVariants as value

@@ -16,3 +16,4 @@ pub mod Bytes
 pub mod LaidTypes
 pub mod Numbering
 pub mod Coded
+pub mod Seen

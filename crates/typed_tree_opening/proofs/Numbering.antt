@@ -33,13 +33,15 @@ most : (xs : List Shape) (s : Shape) → number_among xs s ≤ length xs
 most [] s = omega arith
 most (x ∷ xs) s = most_one (same_shape x s) (number_among xs s) (length xs) (most xs s)
 
-new_by : (xs : List Shape) (s : Shape) (b : Bool) → nat_lt (number_among xs s) (length xs) ≡ b → (number_among (if b then xs else xs ++ (s ∷ [])) s ≡ number_among xs s) × (number_among (if b then xs else xs ++ (s ∷ [])) s < length (if b then xs else xs ++ (s ∷ [])))
+-- A shape that has a number, or got one, has it.
+pub new_by : (xs : List Shape) (s : Shape) (b : Bool) → nat_lt (number_among xs s) (length xs) ≡ b → (number_among (if b then xs else xs ++ (s ∷ [])) s ≡ number_among xs s) × (number_among (if b then xs else xs ++ (s ∷ [])) s < length (if b then xs else xs ++ (s ∷ [])))
 new_by xs s true e = (refl, ltb-true (number_among xs s) (length xs) e)
 new_by xs s false e =
     let same = number_behind xs s (ltb-false (number_among xs s) (length xs) e) in
     (same, omega (arith, same, most xs s, length-append xs (s ∷ [])))
 
-more_by : (xs : List Shape) (x s : Shape) (b : Bool) → number_among xs s < length xs → (number_among (if b then xs else xs ++ (x ∷ [])) s ≡ number_among xs s) × (length xs ≤ length (if b then xs else xs ++ (x ∷ [])))
+-- A shape that has a number keeps it when one more has.
+pub more_by : (xs : List Shape) (x s : Shape) (b : Bool) → number_among xs s < length xs → (number_among (if b then xs else xs ++ (x ∷ [])) s ≡ number_among xs s) × (length xs ≤ length (if b then xs else xs ++ (x ∷ [])))
 more_by xs x s true h = (refl, omega arith)
 more_by xs x s false h = (number_before xs (x ∷ []) s h, omega (arith, length-append xs (x ∷ [])))
 

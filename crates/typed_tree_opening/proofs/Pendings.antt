@@ -177,7 +177,8 @@ pub done_more : (s : Structs) (done more : List Bool) (n : ℕ) →
     AreNoted s (struct_targets s.completed n) → IsDone s more
 done_more s done more n f h k m g = done_one s done more n f h k m (nat_eq m n) refl g
 
-none_by : (count n : ℕ) → (n < count) ⊎ (count ≤ n) → get_or (replicate count false) n false ≡ false
+-- No struct is marked at first.
+pub none_by : (count n : ℕ) → (n < count) ⊎ (count ≤ n) → get_or (replicate count false) n false ≡ false
 none_by count n (inl h) = get_or-replicate count n false false h
 none_by count n (inr h) = get_or_past (replicate count false) n false (omega (arith, h, length-replicate count false))
 

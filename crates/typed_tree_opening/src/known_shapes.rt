@@ -4,6 +4,7 @@ ghost use Rattle.std.specs.Prelude.{◌≡◌, ℕ, nat_eq, ◌<◌, ◌≤◌, 
 ghost use Rattle.std.specs.Prelude.{OnErr, get_or};
 ghost use Rattle.std.specs.BTreeMap.{get};
 ghost use Rattle.std.specs.Ordering.{nat_cmp};
+ghost use Rattle.block_layout.specs.Shapes.{IsShape};
 ghost use Rattle.upc_types.specs.layer.Places.{place_below, IsLinked, IsPlaced};
 ghost use Rattle.typed_tree.specs.Elements as pure;
 ghost use Rattle.typed_tree_opening.specs.code.Apart.{code_of, codes_of, AreApart};
@@ -108,6 +109,7 @@ impl KnownShapes {
 
     /// The number of a shape, which it gets where it has none.
     pub(crate) fn number(&mut self, shape: Shape) -> Result<u32, OutOfMemory>
+        requires { IsShape shape }
         ensures value { OnOk result (self.new.list.items ≡ pure.with_shape self.old.list.items shape) }
         ensures number { IfOk result (λ n. n ≡ pure.number_among self.old.list.items shape) }
     {

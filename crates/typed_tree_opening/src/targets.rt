@@ -44,8 +44,8 @@ fn leaf_in(base: &Base) -> Result<Leaf, OutOfMemory>
     }
 }
 
-// One more struct is done. One that is past the end stays as it is: it is gone through again.
-fn mark_done(done: &mut [bool], number: u32)
+/// One more struct is done. One that is past the end stays as it is: it is gone through again.
+pub(crate) fn mark_done(done: &mut [bool], number: u32)
     ensures { (n : ℕ) → get_or done.new n false ≡ true → n ≢ number → get_or done.old n false ≡ true }
 {
     if (number as usize) < done.len() {

@@ -11,7 +11,7 @@ use Rattle.integers.specs.Operators.{binary_kind, unary_kind}
 use Rattle.upc_types.specs.declared.ctype.Access.{Access}
 use Rattle.upc_types.specs.Types.{CType, Qualified, Base, Array, Pointer, base_of, block_of, Member, Structs}
 use Rattle.upc_types.specs.Types.{members_of}
-use Rattle.upc_types.specs.Layout.{size, base_layout, layout_in, aligned}
+use Rattle.upc_types.specs.Layout.{size, member_offset}
 use Rattle.upc_types.specs.Arithmetic.{promoted, usual}
 use Rattle.typing_rules.specs.declared.setting.Home.{Home}
 use Rattle.typing_rules.specs.declared.setting.Home.TheVariants as home
@@ -120,20 +120,19 @@ pub record Found : Type 0 where
   pub offset : ℕ
   pub ctype : CType
 
--- The first of these members with this name, where they have the numbers from `index` on and stand after `end` bytes of
--- their struct (C99 6.7.2.1).
-abbrev pub find_member : Structs → ℕ → ℕ → List Member → List ℕ → Option Found
-find_member structs index end [] name = None
-find_member structs index end (x ∷ xs) name =
-    let l = base_layout (layout_in structs.completed) (base_of x.ctype) in
+-- The first of these members with this name, where they are those of the struct with this number from number `index`
+-- on (C99 6.7.2.1).
+abbrev pub find_member : Structs → (number index : ℕ) → List Member → List ℕ → Option Found
+find_member structs number index [] name = None
+find_member structs number index (x ∷ xs) name =
     if pointwise nat_eq x.name name
-    then Some record { index = index; offset = aligned end l.align; ctype = x.ctype }
-    else find_member structs (index + 1) (aligned end l.align + l.size) xs name
+    then Some record { index = index; offset = member_offset structs number index; ctype = x.ctype }
+    else find_member structs number (index + 1) xs name
 
 -- The member with this name of the struct with this number, where both exist (C99 6.5.2.3).
 abbrev pub member_of : Structs → Option ℕ → List ℕ → Option Found
 member_of structs None name = None
-member_of structs (Some number) name = find_member structs 0 0 (members_of structs number) name
+member_of structs (Some number) name = find_member structs number 0 (members_of structs number) name
 
 -- A member of a struct of type t, by its name (C99 6.5.2.3).
 abbrev pub member_named : Structs → CType → List ℕ → Option Found

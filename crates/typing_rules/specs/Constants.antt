@@ -5,7 +5,7 @@ use Rattle.std.specs.Ordering.{int_eq}
 use Rattle.block_layout.specs.declared.kind.Kind.{Kind}
 use Rattle.block_layout.specs.declared.place.SharedPtr.{SharedPtr}
 use Rattle.block_layout.specs.Places.{in_range}
-use Rattle.shared_pointers.specs.Steps.{moved}
+use Rattle.block_layout.specs.Pointers.{moved}
 use Rattle.integers.specs.declared.operator.BinOp.{BinOp}
 use Rattle.integers.specs.declared.operator.BinOp.TheVariants.{ShiftLeft, ShiftRight}
 use Rattle.integers.specs.declared.operator.UnOp.{UnOp}

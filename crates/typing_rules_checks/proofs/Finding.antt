@@ -1,10 +1,10 @@
 -- Members that are looked for by their names.
 use Rattle.std.proofs.Common.{◌≡◌, ℕ, zero, suc, ◌+◌, nat_eq, Bool, true, false, ◌||◌, if◌then◌else◌, List, [], ◌∷◌}
-use Rattle.std.proofs.Common.{get_or, Option, Some, None, is_some, refl, sym, ap, ◌∙◌, arith}
+use Rattle.std.proofs.Common.{get_or, Option, Some, None, is_some, refl, ap, ◌∙◌, arith}
 use Rattle.std.specs.Cmp.Lexicographic.{pointwise}
 use Rattle.upc_types.specs.declared.layout.Known.{Known}
-use Rattle.upc_types.specs.Types.{CType, base_of, Member, Completed, Structs, members_in}
-use Rattle.upc_types.specs.Layout.{aligned, base_layout, layout_in, known_in, complete_in, member_layouts, offset_behind}
+use Rattle.upc_types.specs.Types.{CType, Member, Completed, Structs, members_in}
+use Rattle.upc_types.specs.Layout.{known_in, complete_in, member_offset}
 use Rattle.upc_types.specs.layer.Named.{one_more, first_named}
 use Rattle.upc_types.proofs.Places.{absent}
 use Rattle.typing_rules.specs.Attributes.{Found, find_member}
@@ -13,38 +13,31 @@ use Rattle.typing_rules.specs.Rules.{has_name}
 abbrev pub found_with : ℕ → ℕ → CType → Option Found
 found_with index offset ctype = Some record { index = index; offset = offset; ctype = ctype }
 
--- The member with this number, where the first of these stands after some bytes and has that number.
-abbrev pub found_at : Structs → ℕ → ℕ → List Member → Member → Option ℕ → Option Found
-found_at structs index end ms d None = None
-found_at structs index end ms d (Some i) =
-    found_with (index + i) (offset_behind end (member_layouts (layout_in structs.completed) ms) i) (get_or ms i d).ctype
+-- The i-th of these members of a struct, where the first of them has this index.
+abbrev pub found_at : Structs → (number index : ℕ) → List Member → Member → Option ℕ → Option Found
+found_at structs number index ms d None = None
+found_at structs number index ms d (Some i) =
+    found_with (index + i) (member_offset structs number (index + i)) (get_or ms i d).ctype
 
-find_one : (structs : Structs) (index end : ℕ) (m : Member) (ms : List Member) (d : Member) (b : Bool) (o : Option ℕ)
-    (r : Option Found) →
-    let l = base_layout (layout_in structs.completed) (base_of m.ctype) in
-    r ≡ found_at structs (index + 1) (aligned end l.align + l.size) ms d o →
-    (if b then found_with index (aligned end l.align) m.ctype else r)
-    ≡ found_at structs index end (m ∷ ms) d (if b then Some zero else one_more o)
-find_one structs index end m ms d true o r h =
-    let l = base_layout (layout_in structs.completed) (base_of m.ctype) in
+find_one : (structs : Structs) (number index : ℕ) (m : Member) (ms : List Member) (d : Member) (b : Bool) (o : Option ℕ)
+    (r : Option Found) → r ≡ found_at structs number (index + 1) ms d o →
+    (if b then found_with index (member_offset structs number index) m.ctype else r)
+    ≡ found_at structs number index (m ∷ ms) d (if b then Some zero else one_more o)
+find_one structs number index m ms d true o r h =
     let e : index ≡ index + zero = omega arith in
-    ap (λ n. found_with n (aligned end l.align) m.ctype) e
-find_one structs index end m ms d false None r h = h
-find_one structs index end m ms d false (Some i) r h =
-    let l = base_layout (layout_in structs.completed) (base_of m.ctype) in
-    let ls = member_layouts (layout_in structs.completed) ms in
+    ap (λ n. found_with n (member_offset structs number n) m.ctype) e
+find_one structs number index m ms d false None r h = h
+find_one structs number index m ms d false (Some i) r h =
     let e : index + 1 + i ≡ index + suc i = omega arith in
-    h ∙ ap (λ n. found_with n (offset_behind (aligned end l.align + l.size) ls i) (get_or ms i d).ctype) e
+    h ∙ ap (λ n. found_with n (member_offset structs number n) (get_or ms i d).ctype) e
 
 -- The first member of a name, with the bytes before it.
-pub find_is : (structs : Structs) (index end : ℕ) (ms : List Member) (d : Member) (name : List ℕ) →
-    find_member structs index end ms name ≡ found_at structs index end ms d (first_named ms name)
-find_is structs index end [] d name = refl
-find_is structs index end (m ∷ ms) d name =
-    let l = base_layout (layout_in structs.completed) (base_of m.ctype) in
-    find_one structs index end m ms d (pointwise nat_eq m.name name) (first_named ms name)
-    (find_member structs (index + 1) (aligned end l.align + l.size) ms name)
-    (find_is structs (index + 1) (aligned end l.align + l.size) ms d name)
+pub find_is : (structs : Structs) (number index : ℕ) (ms : List Member) (d : Member) (name : List ℕ) →
+    find_member structs number index ms name ≡ found_at structs number index ms d (first_named ms name)
+find_is structs number index [] d name = refl
+find_is structs number index (m ∷ ms) d name =
+    find_one structs number index m ms d (pointwise nat_eq m.name name) (first_named ms name)
+    (find_member structs number (index + 1) ms name) (find_is structs number (index + 1) ms d name)
 
 more_some : (o : Option ℕ) → is_some (one_more o) ≡ is_some o
 more_some None = refl

@@ -2,7 +2,7 @@
 
 ghost use Rattle.std.specs.Prelude.{◌≡◌, ◌*◌, ◌<◌, ◌≤◌, ◌^◌, IfSome, pos, ◌+ℤ◌, ◌*ℤ◌, unsigned_abs};
 ghost use Rattle.block_layout.specs.Places.{offset_at};
-ghost use Rattle.shared_pointers.specs.Steps.{element_in_row, row_offset, moved};
+ghost use Rattle.block_layout.specs.Pointers.{element_in_row, moved, row_offset};
 ghost use Rattle.shared_pointers.specs.layer.Parts.{moved_by_blocks};
 ghost use Rattle.typing_rules.specs.Constants as constants;
 ghost use Rattle.typing_rules.specs.Constants.{IsWithin};

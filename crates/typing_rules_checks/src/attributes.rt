@@ -23,14 +23,13 @@ use crate::constants::{
 use block_layout::{Kind, limits};
 use integers::{BinOp, UnOp};
 use std::alloc::Global;
-use std::rc::Rc;
 use typing_rules::calls::is_allocation;
 use typing_rules::constants::{address_in, cast_constant, constant_of, working_kind};
 use typing_rules::names::constant_value;
 use typing_rules::types::{base_kind, kind_of, target_of};
 use typing_rules::{Attr, Constant, Element, Form, Home, Meaning, Static, Use};
 use upc_text::OutOfMemory;
-use upc_types::{Access, Base, CType, copy_base, copy_type, promoted, usual};
+use upc_types::{Access, Base, CType, Target, copy_base, copy_type, promoted, usual};
 use upc_values::LibraryCall;
 
 pub(crate) fn plainly(base: Base) -> CType
@@ -69,7 +68,7 @@ fn value_base(base: &Base) -> Result<Base, OutOfMemory>
     ensures { IfOk result (λ b. view_base b ≡ values.value_base (view_base base.now)) }
 {
     match base {
-        Base::Array(element, _) => Ok(Base::Pointer(element.clone()?)),
+        Base::Array(element, _) => Ok(Base::Pointer(element.copy()?)),
         other => copy_base(other),
     }
 }
@@ -196,7 +195,7 @@ pub fn address(alloc: Global, a: &Attr) -> Result<Attr, OutOfMemory>
 {
     let target = copy_type(&a.ctype)?;
     Ok(Attr {
-        ctype: plainly(Base::Pointer(Rc::new(alloc, target)?)),
+        ctype: plainly(Base::Pointer(Target::new(alloc, target)?)),
         form: Form::Value,
         constant: address_in(a.form),
     })
@@ -282,7 +281,7 @@ fn pointer_to(alloc: Global, base: Base, shared: Option<u32>) -> Result<CType, O
         shared,
         access: Access::Unsaid,
     };
-    Ok(plainly(Base::Pointer(Rc::new(alloc, target)?)))
+    Ok(plainly(Base::Pointer(Target::new(alloc, target)?)))
 }
 
 fn call_result(alloc: Global, call: LibraryCall) -> Result<CType, OutOfMemory>

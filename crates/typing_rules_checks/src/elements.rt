@@ -18,12 +18,11 @@ use crate::sizes::leaves_of;
 use block_layout::Kind;
 use integers::BinOp;
 use std::alloc::Global;
-use std::rc::Rc;
 use typing_rules::constants::constant_of;
 use typing_rules::types::target_of;
 use typing_rules::{Attr, Constant, Form};
 use upc_text::OutOfMemory;
-use upc_types::{Base, CType, Structs, copy_type};
+use upc_types::{Base, CType, Structs, Target, copy_type};
 
 // The address so many objects of this type after another.
 fn address_behind(
@@ -98,7 +97,7 @@ fn pointer(
     let constant = indexed(structs, threads, t, address, steps);
     let target = copy_type(t)?;
     Ok(Attr {
-        ctype: plainly(Base::Pointer(Rc::new(alloc, target)?)),
+        ctype: plainly(Base::Pointer(Target::new(alloc, target)?)),
         form: Form::Value,
         constant,
     })

@@ -15,12 +15,11 @@ ghost use Rattle.typing_rules.specs.Attributes.{attr};
 use crate::addresses::member_address;
 use crate::attributes::int_value;
 use std::alloc::Global;
-use std::rc::Rc;
 use typing_rules::constants::{address_in, constant_of};
 use typing_rules::types::target_of;
 use typing_rules::{Attr, Constant, Form};
 use upc_text::OutOfMemory;
-use upc_types::{Base, CType, Structs, copy_base};
+use upc_types::{Base, CType, Structs, Target, copy_base};
 
 /// A member with its number and the bytes before it.
 #[derive(Clone, Copy)]
@@ -39,7 +38,7 @@ pub struct MemberNode {
 
 fn find_in<'s>(structs: &'s Structs, number: u32, name: &[u8]) -> Option<Found<'s>>
     ensures { view_found result
-        ≡ pure.find_member (view_structs structs.now) 0 0
+        ≡ pure.find_member (view_structs structs.now) number 0
         (types.members_of (view_structs structs.now) number) name.now }
 {
     match structs.member_named(number, name) {
@@ -88,7 +87,7 @@ fn spread(alloc: Global, struct_type: &CType, base: &Base) -> Result<Base, OutOf
                 shared: member_block(struct_type.shared),
                 access: struct_type.access,
             };
-            Ok(Base::Array(Rc::new(alloc, inner)?, *count))
+            Ok(Base::Array(Target::new(alloc, inner)?, *count))
         }
         other => copy_base(other),
     }

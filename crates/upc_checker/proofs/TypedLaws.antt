@@ -75,10 +75,10 @@ range_by true i size f rest e k = omega (arith, e)
 range_by false i size f rest e k = let h = k refl in omega (arith, h)
 
 -- A member that is found has a number among them.
-found_in_range : (σ : Structs) (i end : ℕ) (ms : List Member) (name : List ℕ) → has_name ms name ≡ true → found_index (find_member σ i end ms name) < i + length ms
-found_in_range σ i end [] name h = absurd cc
-found_in_range σ i end (x ∷ ms) name h =
-    range_by (pointwise nat_eq x.name name) i (length ms) _ _ refl (λ e. found_in_range σ (i + 1) _ ms name (or_second (pointwise nat_eq x.name name) (has_name ms name) e h))
+found_in_range : (σ : Structs) (number i : ℕ) (ms : List Member) (name : List ℕ) → has_name ms name ≡ true → found_index (find_member σ number i ms name) < i + length ms
+found_in_range σ number i [] name h = absurd cc
+found_in_range σ number i (x ∷ ms) name h =
+    range_by (pointwise nat_eq x.name name) i (length ms) _ _ refl (λ e. found_in_range σ number (i + 1) ms name (or_second (pointwise nat_eq x.name name) (has_name ms name) e h))
 
 module _ (p : Checked) (σ : Structs) (earlier : Earlier p.structs.completed σ.completed) (name : List ℕ) (index : ℕ) where
   member_by : (b : Base) → base_names σ b name ≡ true → index ≡ found_index (member_of σ (base_struct b) name) →
@@ -86,7 +86,7 @@ module _ (p : Checked) (σ : Structs) (earlier : Earlier p.structs.completed σ.
   member_by types.Void h e = absurd cc
   member_by (types.Integer kind) h e = absurd cc
   member_by (types.Struct number) h e =
-      let r = found_in_range σ 0 0 (members_of σ number) name h in
+      let r = found_in_range σ number 0 (members_of σ number) name h in
       let l : length (members_of p.structs number) ≡ length (members_of σ number) = ap length (members_stay number name earlier h) in
       (number, refl, omega (arith, r, l, e))
   member_by (types.Array t count) h e = absurd cc

@@ -10,11 +10,10 @@ ghost use Rattle.upc_checker_types.specs.layer.ViewShapes.{view_blocks, view_qua
 use crate::specified::{Blocks, Quals, Specified, quals_fit, specified_base};
 use block_layout::{Kind, limits};
 use std::alloc::Global;
-use std::rc::Rc;
 use typing_rules::{Constant, Formed};
 use typing_rules_checks::attributes::value_type;
 use upc_text::OutOfMemory;
-use upc_types::{Access, Base, CType, copy_type};
+use upc_types::{Access, Base, CType, Target, copy_type};
 
 /// A type so far: whether its parts fit, and whether its last layout is `[*]`.
 #[derive(Drop)]
@@ -89,7 +88,7 @@ pub fn pointer_to(alloc: Global, t: Shaped, quals: &Quals) -> Result<Shaped, Out
     ensures { IfOk result (λ p. view_shaped p ≡ pure.pointer_to (view_shaped t) (view_quals
         quals.now)) }
 {
-    let base = Base::Pointer(Rc::new(alloc, t.ctype)?);
+    let base = Base::Pointer(Target::new(alloc, t.ctype)?);
     Ok(Shaped {
         forms: t.forms && quals_fit(quals),
         ctype: qualify(base, quals),
@@ -188,7 +187,7 @@ fn array_of(alloc: Global, t: CType, count: u32) -> Result<CType, OutOfMemory>
 {
     let (constant, shared, access) = (t.constant, t.shared, t.access);
     Ok(CType {
-        base: Base::Array(Rc::new(alloc, t)?, count),
+        base: Base::Array(Target::new(alloc, t)?, count),
         constant,
         shared,
         access,

@@ -71,7 +71,7 @@ pub fn element(p: &SharedPtr, block: u32, size: u32, threads: u32, i: u64) -> Sp
         object: p.object,
         thread: wide::thread_of(number, block, threads),
         phase: wide::phase_of(number, block),
-        offset: block_offset(p, size) + wide::offset_of(number, block, size, threads),
+        offset: wide::offset_of(number, block, size, threads) + block_offset(p, size),
     }
 }
 

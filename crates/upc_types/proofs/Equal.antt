@@ -11,18 +11,21 @@ use Rattle.upc_types.specs.Same.{same_bool, same_access, same_block, same_qualif
 use Rattle.upc_types.specs.Cells.{alike, number_of, IsItsOwn}
 use Rattle.upc_types.proofs.Numbers.{alike_itself}
 
-bool_is : (c d : Bool) → same_bool c d ≡ true → c ≡ d
+-- Truth values that pass the test of equality are equal.
+pub bool_is : (c d : Bool) → same_bool c d ≡ true → c ≡ d
 bool_is true true h = refl
 bool_is false false h = refl
 bool_is c d h = absurd cc
 
-access_is : (x y : Access) → same_access x y ≡ true → x ≡ y
+-- What passes the test of strict, relaxed or neither is equal.
+pub access_is : (x y : Access) → same_access x y ≡ true → x ≡ y
 access_is a.Unsaid a.Unsaid h = refl
 access_is a.Strict a.Strict h = refl
 access_is a.Relaxed a.Relaxed h = refl
 access_is x y h = absurd cc
 
-block_is : (s t : Option ℕ) → same_block s t ≡ true → s ≡ t
+-- Blocks that pass the test of equality are equal.
+pub block_is : (s t : Option ℕ) → same_block s t ≡ true → s ≡ t
 block_is None None h = refl
 block_is (Some m) (Some n) h = ap Some (eqb-true m n h)
 block_is s t h = absurd cc

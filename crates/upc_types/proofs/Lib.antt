@@ -12,3 +12,6 @@ pub mod Coded
 pub mod Naming
 pub mod Fitting
 pub mod Making
+pub mod Starred
+pub mod MadeAlike
+pub mod Holding

@@ -39,7 +39,8 @@ access_itself a.Unsaid = refl
 access_itself a.Strict = refl
 access_itself a.Relaxed = refl
 
-qualifiers_themselves : (c : Bool) (s : Option ℕ) (x : Access) → same_qualifiers c s x c s x ≡ true
+-- Qualifiers are the same as themselves.
+pub qualifiers_themselves : (c : Bool) (s : Option ℕ) (x : Access) → same_qualifiers c s x c s x ≡ true
 qualifiers_themselves c s x = rw (bool_itself c, block_itself s, access_itself x) refl
 
 base_itself : (b : Base) → same_base b b ≡ true

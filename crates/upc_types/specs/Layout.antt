@@ -5,7 +5,7 @@ use Rattle.std.specs.List.{list_any}
 use Rattle.block_layout.specs.Shapes.{kind_size}
 use Rattle.upc_types.specs.declared.layout.Layout.{Layout}
 use Rattle.upc_types.specs.declared.layout.Known.{Known}
-use Rattle.upc_types.specs.Types.{CType, Qualified, Base, Void, Integer, Struct, Array, Pointer, LockObject, base_of}
+use Rattle.upc_types.specs.Types.{CType, Qualified, Base, Integer, Struct, Array, Pointer, LockObject, base_of}
 use Rattle.upc_types.specs.Types.{Member, Completed, Structs, members_of}
 use Rattle.upc_types.specs.Same.{is_lock_object}
 

@@ -1,7 +1,7 @@
 -- The types of the code, seen without where they lie in memory.
 use Rattle.std.specs.Prelude.{map}
 use Rattle.upc_types.specs.declared.ctype.CType as ctype_type
-use Rattle.upc_types.specs.declared.ctype.Base as base_type
+use Rattle.upc_types.specs.declared.ctype.Base.TheVariants as base_type
 use Rattle.upc_types.specs.declared.ctype.Base.{Base}
 use Rattle.upc_types.specs.declared.structs.Member as member_type
 use Rattle.upc_types.specs.declared.structs.Completed as completed
@@ -12,10 +12,8 @@ abbrev pub view_base : Base → types_spec.Base
 view_base base_type.Void = types_spec.Void
 view_base (base_type.Integer kind) = types_spec.Integer kind
 view_base (base_type.Struct number) = types_spec.Struct number
-view_base (base_type.Array' p base constant shared access count) = types_spec.Array
-    (types_spec.Qualified (view_base base) constant shared access) count
-view_base (base_type.Pointer' p base constant shared access) = types_spec.Pointer
-    (types_spec.Qualified (view_base base) constant shared access)
+view_base (base_type.Array element count) = types_spec.Array element count
+view_base (base_type.Pointer target) = types_spec.Pointer target
 view_base base_type.LockObject = types_spec.LockObject
 
 -- A type of the code with its qualifiers, seen without where it lies in memory.

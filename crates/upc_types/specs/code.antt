@@ -3,3 +3,8 @@ pub mod TypeCodes
 pub mod Targets
 pub mod Starts
 pub mod Made
+pub mod Stars
+pub mod Depth
+pub mod Stored
+pub mod Falls
+pub mod MadeOf

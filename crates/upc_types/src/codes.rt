@@ -25,7 +25,8 @@ fn access_number(access: Access) -> u32
     }
 }
 
-fn kind_number(kind: Kind) -> u32
+/// The number of an integer kind from 1, and 0 for another.
+pub(crate) fn kind_number(kind: Kind) -> u32
     ensures { result ≡ pure.kind_number kind }
 {
     match kind {

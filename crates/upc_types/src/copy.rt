@@ -26,8 +26,8 @@ pub fn copy_base(base: &Base) -> Result<Base, OutOfMemory>
         Base::Void => Base::Void,
         Base::Integer(kind) => Base::Integer(*kind),
         Base::Struct(number) => Base::Struct(*number),
-        Base::Array(element, count) => Base::Array(element.clone()?, *count),
-        Base::Pointer(target) => Base::Pointer(target.clone()?),
+        Base::Array(element, count) => Base::Array(element.copy()?, *count),
+        Base::Pointer(target) => Base::Pointer(target.copy()?),
         Base::LockObject => Base::LockObject,
     })
 }

@@ -1,5 +1,6 @@
 //! Types (C99 6.2.5, UPC 6.5.1).
 
+use crate::target::Target;
 use block_layout::Kind;
 use std::rc::Rc;
 
@@ -33,23 +34,25 @@ pub enum Base {
     /// A struct, by its number.
     Struct(u32),
     /// An array with its number of elements. It has the qualifiers of its element.
-    Array(Rc<CType>, u32),
+    Array(Target, u32),
     /// A pointer: to shared where its target is shared, a lock pointer where its target is a lock, else private.
-    Pointer(Rc<CType>),
+    Pointer(Target),
     /// What a lock pointer points to (UPC 7.2.4).
     LockObject,
 }
 
 // A loop, since a chain of pointers may be as long as a source. It ends at the first that has another owner.
 impl Drop for Base {
+    #[cycle(types)]
     fn drop(mut self) {
         loop {
-            match self {
-                Base::Array(inner, _) | Base::Pointer(inner) => match Rc::into_inner(inner) {
-                    Some(inner) => self = inner.base,
-                    None => return,
-                },
+            let inner = match self {
+                Base::Array(target, _) | Base::Pointer(target) => target.into_type(),
                 Base::Void | Base::Integer(_) | Base::Struct(_) | Base::LockObject => return,
+            };
+            match Rc::into_inner(inner) {
+                Some(inner) => self = inner.base,
+                None => return,
             }
         }
     }

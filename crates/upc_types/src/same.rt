@@ -5,6 +5,7 @@ ghost use Rattle.upc_types.specs.Same as pure;
 ghost use Rattle.upc_types.specs.View.{view, view_base};
 
 use crate::ctype::{Access, Base, CType};
+use crate::target::Target;
 
 /// Whether two types are equal, with all their qualifiers.
 pub fn same_type(a: &CType, b: &CType) -> bool
@@ -32,7 +33,8 @@ pub fn same_block(a: Option<u32>, b: Option<u32>) -> bool
     }
 }
 
-fn same_access(a: Access, b: Access) -> bool
+/// Whether both say strict, both relaxed, or both neither.
+pub(crate) fn same_access(a: Access, b: Access) -> bool
     ensures { result ≡ pure.same_access a b }
 {
     match (a, b) {
@@ -56,15 +58,13 @@ pub fn same_base(mut a: &Base, mut b: &Base) -> bool
                 if *m != *n || !same_qualifiers(s, t) {
                     return false;
                 }
-                a = &s.base;
-                b = &t.base;
+                (a, b) = Target::after_same(s, t);
             }
             (Base::Pointer(s), Base::Pointer(t)) => {
                 if !same_qualifiers(s, t) {
                     return false;
                 }
-                a = &s.base;
-                b = &t.base;
+                (a, b) = Target::after_same(s, t);
             }
             (Base::LockObject, Base::LockObject) => return true,
             _ => return false,

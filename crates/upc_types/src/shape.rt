@@ -17,6 +17,7 @@ use crate::layout::aligned;
 use crate::structs::Structs;
 use block_layout::{Cells, Kind, Shape};
 use std::alloc::Global;
+use std::collections::BTreeMap;
 use upc_text::OutOfMemory;
 
 /// The shape of one leaf element of an object of this type: of an array of arrays, the innermost element; else the
@@ -66,14 +67,21 @@ impl Structs {
     pub fn hold_cells(&mut self, alloc: Global, wanted: &[bool]) -> Result<(), OutOfMemory>
         ensures { view_structs self.new ≡ view_structs self.old }
     {
+        let mut latest = BTreeMap::new(alloc);
         for place in 0..self.completed().len() {
-            self.hold_at(alloc, wanted, place)?;
+            self.hold_at(alloc, wanted, &mut latest, place)?;
         }
         Ok(())
     }
 
     // Holds the cells of a struct by its place in the order of completion, where its number is marked.
-    fn hold_at(&mut self, alloc: Global, wanted: &[bool], place: usize) -> Result<(), OutOfMemory>
+    fn hold_at(
+        &mut self,
+        alloc: Global,
+        wanted: &[bool],
+        latest: &mut BTreeMap<u64, u32>,
+        place: usize,
+    ) -> Result<(), OutOfMemory>
         ensures { view_structs self.new ≡ view_structs self.old }
     {
         let Some(completed) = self.completed().get(place) else {
@@ -84,9 +92,31 @@ impl Structs {
             && self.is_complete(&Base::Struct(number))
             && self.held(number).is_none()
         {
-            let cells = self.struct_cells(alloc, &[], number)?;
-            self.hold(number, cells)?;
+            self.hold_next(alloc, latest, number)?;
         }
+        Ok(())
+    }
+
+    // Holds the cells of a struct. Where the latest one of its code is made alike, they have them together.
+    fn hold_next(
+        &mut self,
+        alloc: Global,
+        latest: &mut BTreeMap<u64, u32>,
+        number: u32,
+    ) -> Result<(), OutOfMemory>
+        requires { complete_in (view_structs self.old).completed number ≡ true }
+        ensures { view_structs self.new ≡ view_structs self.old }
+    {
+        let code = self.members_code(number);
+        if let Some(other) = latest.get(&code).copied()
+            && self.is_complete(&Base::Struct(other))
+            && self.are_alike(number, other)
+        {
+            return self.hold_like(number, other);
+        }
+        let cells = self.struct_cells(alloc, &[], number)?;
+        self.hold(number, cells)?;
+        latest.insert(code, number)?;
         Ok(())
     }
 

@@ -2,6 +2,7 @@
 
 ghost use Rattle.std.specs.Prelude.{◌≡◌, ℕ, ◌<◌, ◌≤◌, None, OnOk, get_or, map, reverse, vec_len};
 ghost use Rattle.upc_types.specs.Cells.{struct_cells};
+ghost use Rattle.upc_types.specs.Layout.{layout_in};
 ghost use Rattle.upc_types.specs.View.{view, view_completed};
 ghost use Rattle.upc_types.specs.layer.Kept.{IsKept};
 ghost use Rattle.upc_types.specs.code.KeptCells.{AreHeld};
@@ -48,6 +49,13 @@ struct Spots {
     end: u32,
 }
 
+/// What is held of a struct: its cells, or another struct with the same layout and cells, of which they are held.
+#[derive(Drop)]
+enum Held {
+    Own(Cells),
+    Like(u32),
+}
+
 /// What the numbers in types and in kinds stand for: structs, and targets of pointers.
 #[derive(Drop)]
 pub struct Structs {
@@ -55,11 +63,12 @@ pub struct Structs {
     known: Vec<Option<Known>>,
     completed: Vec<Completed>,
     targets: Targets,
-    // The cells of structs by their numbers, where they are held.
-    cells: Vec<Option<Cells>>,
+    // What is held of structs, by their numbers.
+    cells: Vec<Option<Held>>,
     ghost kept: { IsKept (reverse (map view_completed completed.items)) known.items },
     ghost made: { AreMade (reverse completed.items) },
-    ghost held: { AreHeld (struct_cells (map view targets.list.items) (reverse (map view_completed completed.items)))
+    ghost held: { AreHeld (layout_in (reverse (map view_completed completed.items)))
+        (struct_cells (map view targets.list.items) (reverse (map view_completed completed.items)))
         cells.items },
 }
 
@@ -94,6 +103,7 @@ impl Structs {
     ghost use Rattle.upc_types.specs.Layout.{base_holds_private, members_hold_private, member_offset};
     ghost use Rattle.upc_types.specs.layer.Kept.{IsFine};
     ghost use Rattle.upc_types.specs.Layout.{end_behind, member_layouts};
+    ghost use Rattle.upc_types.specs.code.KeptCells.{IsHeld};
     ghost use Rattle.upc_types.specs.code.Made.{IsMade};
     ghost use Rattle.upc_types.specs.layer.Named.{first_named};
     ghost use Rattle.upc_types.specs.code.Starts.{starts_behind};
@@ -302,13 +312,37 @@ impl Structs {
         }
     }
 
+    // What is held of a struct.
+    fn held_of(&self, number: u32) -> Option<&Held>
+        ensures { IfSome result (λ held. IsHeld (layout_in (view_structs self.now).completed)
+            (struct_cells (view_structs self.now).targets (view_structs self.now).completed) number held.now) }
+    {
+        match self.cells.get(number as usize) {
+            Some(Some(held)) => Some(held),
+            _ => None,
+        }
+    }
+
+    /// A struct with the same layout and the same cells: one for many that are made alike, after `hold_cells`.
+    pub fn like(&self, number: u32) -> u32
+        ensures layout { layout_in (view_structs self.now).completed result
+            ≡ layout_in (view_structs self.now).completed number }
+        ensures cells { struct_cells (view_structs self.now).targets (view_structs self.now).completed result
+            ≡ struct_cells (view_structs self.now).targets (view_structs self.now).completed number }
+    {
+        match self.held_of(number) {
+            Some(Held::Like(other)) => *other,
+            _ => number,
+        }
+    }
+
     // The cells of a struct, where they are held.
     pub(crate) fn held(&self, number: u32) -> Option<&Cells>
         ensures { IfSome result (λ cells. cells.now ≡ struct_cells (view_structs self.now).targets
             (view_structs self.now).completed number) }
     {
-        match self.cells.get(number as usize) {
-            Some(Some(cells)) => Some(cells),
+        match self.held_of(self.like(number)) {
+            Some(Held::Own(cells)) => Some(cells),
             _ => None,
         }
     }
@@ -320,7 +354,20 @@ impl Structs {
         ensures { view_structs self.new ≡ view_structs self.old }
     {
         make_room(&mut self.cells, number)?;
-        self.cells[number as usize] = Some(cells);
+        self.cells[number as usize] = Some(Held::Own(cells));
+        Ok(())
+    }
+
+    // Holds that another struct has the same layout and the same cells.
+    pub(crate) fn hold_like(&mut self, number: u32, other: u32) -> Result<(), OutOfMemory>
+        requires layout { layout_in (view_structs self.old).completed other
+            ≡ layout_in (view_structs self.old).completed number }
+        requires cells { struct_cells (view_structs self.old).targets (view_structs self.old).completed other
+            ≡ struct_cells (view_structs self.old).targets (view_structs self.old).completed number }
+        ensures { view_structs self.new ≡ view_structs self.old }
+    {
+        make_room(&mut self.cells, number)?;
+        self.cells[number as usize] = Some(Held::Like(other));
         Ok(())
     }
 

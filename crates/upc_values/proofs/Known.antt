@@ -11,7 +11,7 @@ use Rattle.block_layout.specs.declared.place.SharedPtr.{SharedPtr}
 use Rattle.block_layout.specs.declared.kind.Kind.{Kind}
 use Rattle.block_layout.specs.declared.kind.Kind.TheVariants as kind
 use Rattle.block_layout.specs.declared.run_error.TheConstants.{BARRIER_MISMATCH, LOCK_FREED, LOCK_AGAIN, LOCK_NOT_HELD, BAD_FREE, COLLECTIVE_MISMATCH, SHARED_SPACE}
-use Rattle.block_layout.specs.Pointers.{null, is_null, same_object}
+use Rattle.block_layout.specs.Pointers.{null, is_null, same_object, same_target}
 use Rattle.block_layout.proofs.Pointers.{same_object-refl, null-false}
 use Rattle.upc_values.specs.declared.scalar.Scalar.{Scalar}
 use Rattle.upc_values.specs.declared.scalar.Scalar.TheVariants.{Int, Shared, Lock}
@@ -27,7 +27,7 @@ use Rattle.upc_values.specs.Shapes.{fits_cell}
 use Rattle.upc_values.specs.Calls.{Call, Allocates, Makes_lock, Frees, Frees_lock, Copies, Permutes, Reduces, Reduces_prefixes, Other, call_of}
 use Rattle.upc_values.specs.Drain.{entry_of, written, or_else, last_written}
 use Rattle.upc_values.specs.Openings.{Opening, IsOpening, bytes_of, cell_of, is_named, given, blank_in, initial_of, is_initial}
-use Rattle.upc_values.specs.History.{picked, is_meet_of, meets, Lead, leader_from, leader, led, makes, object_of, objects, made, alloc_reply, makes_lock, locks, held, valued, lock_reply, unlock_reply, holder, is_freed, is_given_up, same_target, is_released, allocated, free_reply, led_reply, meet_reply, same_call, notifies, each_thread, agrees_with, marks, all_notified, wait_reply, waits, reply, IsLegalFrom, IsLegal}
+use Rattle.upc_values.specs.History.{picked, is_meet_of, meets, Lead, leader_from, leader, led, makes, object_of, objects, made, alloc_reply, makes_lock, locks, held, valued, lock_reply, unlock_reply, holder, is_freed, is_given_up, is_released, allocated, free_reply, led_reply, meet_reply, same_call, notifies, each_thread, agrees_with, marks, all_notified, wait_reply, waits, reply, IsLegalFrom, IsLegal}
 use Rattle.upc_values.specs.Formed.{knows, is_known, is_home, may_alloc, IsWellFormed, AreWellFormedFrom, AreWellFormed}
 use Rattle.upc_values.specs.layer.Known.{gives_known, AreKnown}
 use Rattle.upc_values.proofs.Beginnings.{picked-append}

@@ -9,7 +9,7 @@ use Rattle.block_layout.specs.declared.place.SharedPtr.{SharedPtr}
 use Rattle.block_layout.specs.declared.run_error.TheConstants.{BARRIER_MISMATCH, LOCK_AGAIN, LOCK_NOT_HELD}
 use Rattle.block_layout.specs.declared.run_error.TheConstants.{LOCK_FREED, BAD_FREE, COLLECTIVE_MISMATCH}
 use Rattle.block_layout.specs.declared.run_error.TheConstants.{SHARED_SPACE}
-use Rattle.block_layout.specs.Pointers.{null, is_null, same_object}
+use Rattle.block_layout.specs.Pointers.{null, is_null, same_target}
 use Rattle.upc_values.specs.declared.scalar.Scalar.{Scalar}
 use Rattle.upc_values.specs.declared.scalar.Scalar.TheVariants.{Shared, Lock}
 use Rattle.upc_values.specs.declared.scalar.Mark.{Mark}
@@ -128,10 +128,6 @@ abbrev pub alloc_reply : Opening → List Entry → ℕ → ℕ → Option ℕ �
 alloc_reply o es nblocks nbytes home shape =
     cond (nat_lt 16777216 (bytes_of (objects o es) + nblocks * nbytes)) (Refused SHARED_SPACE)
     (Value (Shared (made o es nblocks nbytes home shape)))
-
--- Pointers are equal where object, thread and offset are, whatever their phases (UPC 6.4.2).
-abbrev pub same_target : SharedPtr → SharedPtr → Bool
-same_target p q = same_object p.object q.object && ((p.thread == q.thread) && int_eq p.offset q.offset)
 
 -- The action with its reply releases the object with this number: a upc_free, or a leading upc_all_free, that is Done
 -- (UPC 7.2.2).

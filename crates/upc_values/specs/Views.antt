@@ -1,5 +1,5 @@
 -- Parts of shared objects that library calls see as arrays of their own (UPC 7.2.5, 7.3).
-use Rattle.std.specs.Prelude.{ℕ, zero, suc, ◌+◌, ◌-◌, ◌*◌, ◌%◌, nat_lt, ℤ, pos, ◌+ℤ◌, ◌-ℤ◌, int_le}
+use Rattle.std.specs.Prelude.{ℕ, zero, suc, ◌+◌, ◌-◌, ◌*◌, ◌%◌, nat_lt, ℤ, pos, ◌+ℤ◌, int_le}
 use Rattle.std.specs.Prelude.{unsigned_abs, Bool, false, not, ◌&&◌, ◌||◌, List, Option, Some, None}
 use Rattle.std.specs.Prelude.{option_map, slice_get}
 use Rattle.std.specs.List.{list_any, filter_map, range_with_len}
@@ -8,7 +8,8 @@ use Rattle.block_layout.specs.declared.place.Loc.{Loc}
 use Rattle.block_layout.specs.declared.kind.Kind.{Kind}
 use Rattle.block_layout.specs.declared.kind.Shape.{Shape}
 use Rattle.block_layout.specs.Pieces.{piece_of}
-use Rattle.block_layout.specs.Places.{thread_at, phase_at, offset_at, in_range}
+use Rattle.block_layout.specs.Places.{in_range}
+use Rattle.block_layout.specs.Pointers.{moved}
 use Rattle.block_layout.specs.Shapes.{kind_size, same_kind}
 use Rattle.upc_values.specs.Shapes.{kind_at}
 use Rattle.upc_values.specs.Calls.{Way, Broadcast, Scatter, Gather, Gather_all, Exchange}
@@ -26,15 +27,7 @@ with_block p (suc b) = p
 -- The pointer to element i of an array with this block and element size, whose element 0 is at p: p stands for some
 -- element of such an array, and this pointer for the i-th after it (UPC 6.4.2, 6.5.1.1).
 abbrev pub element : SharedPtr → ℕ → ℕ → ℕ → ℕ → SharedPtr
-element p zero size threads i = record p { offset = p.offset +ℤ pos (i * size) }
-element p (suc b) size threads i =
-    let e = pos (p.thread * suc b + p.phase + i) in
-    record {
-      object = p.object;
-      thread = thread_at e (suc b) threads;
-      phase = phase_at e (suc b);
-      offset = (p.offset -ℤ pos (p.phase * size)) +ℤ offset_at e (suc b) size threads;
-    }
+element p block size threads i = moved p (pos i) block size threads
 
 -- The location so many bytes after a pointer.
 abbrev pub location_behind : SharedPtr → ℕ → Loc

@@ -15,7 +15,7 @@ use Rattle.upc_values.specs.declared.refused.Refused.TheVariants as refusal
 use Rattle.upc_values.specs.Scalars.{same_loc}
 use Rattle.upc_values.specs.Drain.{or_else}
 use Rattle.upc_values.specs.Openings.{Opening, IsOpening, bytes_of, cell_of, given, initial_of}
-use Rattle.upc_values.specs.History.{same_target}
+use Rattle.block_layout.specs.Pointers.{same_target}
 
 -- What the run began with; the objects made since, in order, and for each of them whether it was released; and the
 -- values last saved at locations, where the first of a location counts.

@@ -4,7 +4,7 @@ use Rattle.block_layout.specs.declared.kind.Shape.{Shape}
 use Rattle.block_layout.specs.declared.place.SharedPtr.{SharedPtr}
 use Rattle.block_layout.specs.Floor.{floor_div, floor_mod}
 use Rattle.block_layout.specs.Places.{thread_at, phase_at, offset_at}
-use Rattle.shared_pointers.specs.Steps.{element_in_row, row_offset}
+use Rattle.block_layout.specs.Pointers.{element_in_row, row_offset}
 
 -- The pointer that lies i elements after p, with a block of at least 1 (UPC 6.4.2).
 abbrev pub moved_by_blocks : SharedPtr → ℤ → ℕ → ℕ → ℕ → SharedPtr

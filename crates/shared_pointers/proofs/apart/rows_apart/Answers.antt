@@ -3,7 +3,7 @@ use Rattle.std.specs.Int.{w128}
 use Rattle.std.proofs.Math.IntN.{ℤ, pos, ◌-ℤ◌, ◌*ℤ◌}
 use Rattle.std.proofs.lemmas.Int.{ints, to_z-of_z}
 use Rattle.block_layout.specs.Floor.{floor_div}
-use Rattle.shared_pointers.specs.Steps.{row_offset}
+use Rattle.block_layout.specs.Pointers.{row_offset}
 use Rattle.shared_pointers.proofs.apart.rows_apart.Goals as goal
 
 pub returns-clause-value : goal.returns-clause-value

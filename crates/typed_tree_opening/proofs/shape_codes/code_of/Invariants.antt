@@ -1,11 +1,9 @@
 use Rattle.std.proofs.Common.{◌≡◌, ◌<◌}
-use Rattle.typed_tree_opening.specs.code.Apart.{cells_code, code_of}
+use Rattle.typed_tree_opening.specs.code.Apart.{places_code}
 use Rattle.typed_tree_opening.proofs.shape_codes.code_of.Given as goal
 
-abbrev pub invariant-loop-cell : goal.invariant-loop-cell
-invariant-loop-cell l = record {
-  next : (goal.iterator-loop-cell).can_next l.cell-iterator;
-  finite : (goal.iterator-loop-cell).is_finite l.cell-iterator;
-  rest : cells_code l.left l.code l.cell-iterator ≡ code_of l.shape;
+abbrev pub invariant-loop-i : goal.invariant-loop-i
+invariant-loop-i l = record {
+  here : l.code ≡ places_code l.shape l.i;
   small : l.code < 4294967296;
 }

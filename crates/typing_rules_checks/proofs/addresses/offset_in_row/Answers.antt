@@ -2,7 +2,7 @@ use Rattle.std.proofs.Common.{◌∙◌, ap, ℤ, FitsSigned, rules}
 use Rattle.std.specs.Int.{w128}
 use Rattle.std.proofs.lemmas.Int.{to_z-of_z}
 use Rattle.block_layout.specs.Places.{offset_at}
-use Rattle.shared_pointers.specs.Steps.{row_offset}
+use Rattle.block_layout.specs.Pointers.{row_offset}
 use Rattle.typing_rules_checks.proofs.Wide.{wide_sum}
 use Rattle.typing_rules_checks.proofs.addresses.offset_in_row.Goals as goal
 

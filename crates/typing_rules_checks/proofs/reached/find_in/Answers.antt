@@ -1,10 +1,9 @@
-use Rattle.std.proofs.Common.{◌≡◌, ◌+◌, ◌<◌, false, [], map, reverse, length, get_or, None, sym, ap, ◌∙◌, arith}
+use Rattle.std.proofs.Common.{◌≡◌, ◌+◌, false, [], map, reverse, length, get_or, None, sym, ap, ◌∙◌, arith}
 use Rattle.std.proofs.lemmas.List.{length-map}
 use Rattle.std.proofs.Math.ListN.{get_or-map}
 use Rattle.upc_types.specs.declared.ctype.Access.TheVariants as a
 use Rattle.upc_types.specs.Types.{Qualified, Void, Member, members_of}
-use Rattle.upc_types.specs.Layout.{layout_in, member_layouts, offset_behind}
-use Rattle.upc_types.specs.layer.Named.{first_named}
+use Rattle.upc_types.specs.Layout.{member_offset}
 use Rattle.upc_types.specs.View.{view_completed, view_member}
 use Rattle.upc_types.specs.ViewStructs.{view_structs}
 use Rattle.upc_types.proofs.Naming.{first_below}
@@ -29,7 +28,7 @@ returns-in-Some c =
     let s = view_structs c.args.structs.now in
     let xs = c.members-members.result.now in
     let ms = members_of s c.args.number in
-    let ls = member_layouts (layout_in s.completed) ms in
+    let n = c.args.number in
     let i = c.in-Some.index in
     let r = c.index-members-index.result in
     let x = view_member r in
@@ -37,9 +36,9 @@ returns-in-Some c =
     ∙ ap view_member (sym c.index-members-index.is) in
     let e : 0 + i ≡ i = omega arith in
     ap (λ m. found_with i c.member_offset-offset.result (view_member m).ctype) (sym c.index-members-index.is)
-    ∙ sym (find_is s 0 0 ms x c.args.name.now ∙ ap (found_at s 0 0 ms x) (sym c.in-Some.ensures)
-    ∙ ap (λ (m : Member). found_with (0 + i) (offset_behind 0 ls i) m.ctype) one
-    ∙ ap (λ n. found_with n (offset_behind 0 ls i) x.ctype) e
+    ∙ sym (find_is s n 0 ms x c.args.name.now ∙ ap (found_at s n 0 ms x) (sym c.in-Some.ensures)
+    ∙ ap (λ (m : Member). found_with (0 + i) (member_offset s n (0 + i)) m.ctype) one
+    ∙ ap (λ k. found_with k (member_offset s n k) x.ctype) e
     ∙ ap (λ o. found_with i o x.ctype) (sym c.member_offset-offset.ensures.value))
 
 pub returns-in-None : goal.returns-in-None
@@ -47,4 +46,4 @@ returns-in-None c =
     let s = view_structs c.args.structs.now in
     let ms = members_of s c.args.number in
     let d : Member = record { name = []; ctype = Qualified Void false None a.Unsaid } in
-    sym (find_is s 0 0 ms d c.args.name.now ∙ ap (found_at s 0 0 ms d) (sym c.in-None.ensures))
+    sym (find_is s c.args.number 0 ms d c.args.name.now ∙ ap (found_at s c.args.number 0 ms d) (sym c.in-None.ensures))

@@ -62,3 +62,18 @@ returns-clause-ok c =
     let e : reverse (map view_completed c.push.new.self.items) ≡ x ∷ reverse (map view_completed xs) =
     ap (λ ys. reverse (map view_completed ys)) s ∙ with_more xs y x (view_is y c.args.number ms c.in_ok-completed.ensures.number c.in_ok-completed.ensures.members) in
     rw e refl
+
+pub invariant_of-self : goal.invariant_of-self
+invariant_of-self c =
+    let s = c.args.self.now in
+    rw c.reserve.ensures.items (record { kept = s.kept; made = s.made; held = s.held })
+
+pub invariant_of-self-in-Break-branch-3 : goal.invariant_of-self-in-Break-branch-3
+invariant_of-self-in-Break-branch-3 c =
+    let s = c.args.self.now in
+    let cs = reverse (map view_completed s.completed.items) in
+    rw c.reserve.ensures.items (record {
+      kept = kept_room cs s.known.items c.make_room.new.list.items s.kept c.make_room.ensures.same;
+      made = s.made;
+      held = s.held;
+    })
