@@ -18,7 +18,7 @@ use Rattle.upc_values.specs.Calls.{Call, call_of}
 use Rattle.upc_values.specs.Expansions.{work}
 use Rattle.upc_values.specs.Drain.{entries_of, written, last_written}
 use Rattle.upc_values.specs.Openings.{Opening, IsOpening}
-use Rattle.upc_values.specs.History.{held, valued, reply, IsLegal, EachBelow}
+use Rattle.upc_values.specs.History.{held, value_reply, reply, IsLegal, EachBelow}
 use Rattle.upc_values.specs.Formed.{IsWellFormed, AreWellFormed}
 use Rattle.upc_values.specs.Waits.{WaitsFollow}
 use Rattle.upc_values.specs.Together.{IsInto, IsFrom, IsApart, EndsNotified}
@@ -80,7 +80,7 @@ has-of P [] x m p = absurd m
 has-of P (y ∷ xs) x (inl q) p = inl (subst P (sym q) p)
 has-of P (y ∷ xs) x (inr m) p = inr (has-of P xs x m p)
 
-valued-is : (o : Option Scalar) (r : Reply) (v : Scalar) → valued o ≡ Some r → r ≡ Value v → o ≡ Some v
+valued-is : (o : Option Scalar) (r : Reply) (v : Scalar) → value_reply o ≡ Some r → r ≡ Value v → o ≡ Some v
 valued-is None r v e h = absurd cc
 valued-is (Some u) r v e h = ap Some (one (some (e ∙ ap Some h)))
   where
@@ -224,7 +224,7 @@ module _ (o : Opening) (history : List Entry) (n c : ℕ) (args : List Scalar) (
       between.history_is ∙ ap (λ z. (entered ++ z) ++ between.rest) s.2
       ∙ regroup entered s.0 s.1 between.rest e in
       let lawful = legal-at o (entered ++ s.0) (s.1 ++ between.rest) e (subst (IsLegal o) is legal) in
-      let answer : valued (held o (entered ++ s.0) l) ≡ Some e.reply =
+      let answer : value_reply (held o (entered ++ s.0) l) ≡ Some e.reply =
       subst (λ a. reply o (entered ++ s.0) e.thread a ≡ Some e.reply) r.2 lawful in
       let now = valued-is (held o (entered ++ s.0) l) e.reply v answer r.3 in
       let part : (x : Entry) → Has s.0 x → Has mid x =

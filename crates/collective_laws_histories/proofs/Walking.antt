@@ -13,7 +13,7 @@ use Rattle.upc_values.specs.declared.record.Item.TheVariants.{Did, Stall}
 use Rattle.upc_values.specs.declared.journal.Entry.{Entry}
 use Rattle.upc_values.specs.Lists.{Each, Has}
 use Rattle.upc_values.specs.Drain.{Commit, commit_of, entries_in, Walk, emptied, oldest_out, with_room, passed, stored}
-use Rattle.upc_values.specs.Drain.{pending_value, changed, combined, put, looked_up, stepped, walked_from, entry_of}
+use Rattle.upc_values.specs.Drain.{pending_value, changed, combined, put_pending, looked_up, stepped, walked_from, entry_of}
 use Rattle.upc_values.specs.Drain.{written}
 use Rattle.upc_values.proofs.Membership.{each-append, has-left, has-right}
 use Rattle.upc_values.proofs.Growth.{each-changed}
@@ -124,7 +124,7 @@ module _ (P : Entry → Type 0) where
 
   goes-put : (w : Walk) (e : Entry) (l : Loc) (x : Scalar) → e.action ≡ act.Write false l x → P e → Each P (waiting w)
       → (o : Option Scalar) → pending_value l w.pending ≡ o
-      → (more : List Entry) × Goes w more (put l e o w) × Holds_of (Writes l) (more ++ waiting (put l e o w))
+      → (more : List Entry) × Goes w more (put_pending l e o w) × Holds_of (Writes l) (more ++ waiting (put_pending l e o w))
   goes-put w e l x is p h None q =
       let room = goes-with_room w h in
       let w1 = with_room w in

@@ -364,19 +364,19 @@ module _ (τ : Thread) where
       meet_replies d at (r ∷ rest) σ same e =
           meet_fit d at (fits τ.threads τ.shapes None (act.Meet number args) r) r rest σ same e
 
-      made_runs : Runs (l.valued made)
+      made_runs : Runs (l.gives_zero made)
       unfolding a.ask
       made_runs = record { by = λ d at σ same. meet_replies d at σ.replies σ same refl }
 
-    collective_runs : Runs (l.valued (c.collective τ.threads τ.shapes τ.number number args))
+    collective_runs : Runs (l.gives_zero (c.collective τ.threads τ.shapes τ.number number args))
     collective_runs = by_tests (refused_either (c.tests τ.threads τ.shapes τ.number (call_of number args)) made)
       where
         by_tests : ((code : ℕ) × (c.collective τ.threads τ.shapes τ.number number args ≡ Fails code))
             ⊎ (c.collective τ.threads τ.shapes τ.number number args ≡ made)
-            → Runs (l.valued (c.collective τ.threads τ.shapes τ.number number args))
+            → Runs (l.gives_zero (c.collective τ.threads τ.shapes τ.number number args))
         by_tests (inl h) =
-            subst (λ z. Runs (l.valued z)) (sym h.1) (quiet_runs (l.valued (Fails h.0)) (record { by = tt }))
-        by_tests (inr h) = subst (λ z. Runs (l.valued z)) (sym h) (made_runs h)
+            subst (λ z. Runs (l.gives_zero z)) (sym h.1) (quiet_runs (l.gives_zero (Fails h.0)) (record { by = tt }))
+        by_tests (inr h) = subst (λ z. Runs (l.gives_zero z)) (sym h) (made_runs h)
 
   pub library_runs : (private : ℕ → Option Shape) (call : LibraryCall) (shape : ℕ) (args : List Value)
       → Runs (l.library_call τ.threads τ.shapes τ.number private call shape args)

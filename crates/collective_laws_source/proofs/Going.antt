@@ -18,7 +18,7 @@ use Rattle.upc_values.specs.declared.record.ToldEnd.TheVariants.{OutOfTicks}
 use Rattle.upc_values.specs.Formed.{fits}
 use Rattle.upc_values.specs.LibraryCalls.{library_call, meet_number}
 use Rattle.upc_values.specs.Expansion.{Expansion}
-use Rattle.private_store.specs.Live.{Live, called, returned}
+use Rattle.private_store.specs.Live.{Live, call_begun, returned}
 use Rattle.thread_steps.specs.States.{Thread, State, Res, Val, Over, Unfinished, bind, Doing, ◌>>=◌, ◌>>◌}
 use Rattle.thread_steps.specs.layer.Parts.{is_deep}
 use Rattle.thread_steps.specs.layer.Parts as parts
@@ -205,12 +205,12 @@ module _ (τ : Thread) where
       (fault_if_going n d a.is_controlled BARRIER_IN_FORALL at (λ σ as_ rs. refl)) (λ u.
       fault_if_going n d parts.is_notified PHASE_ORDER at (λ σ as_ rs. refl))
 
-  run_going : (n d : ℕ) (at : Place) (e : Expansion Scalar) → Runs τ e → Going n d Scalar (x.run τ at e)
-  unfolding x.run
+  run_going : (n d : ℕ) (at : Place) (e : Expansion Scalar) → Runs τ e → Going n d Scalar (x.library_steps τ at e)
+  unfolding x.library_steps
   run_going n d at e h = record { by = λ σ same. h.by d at σ same }
 
   called_going : (n d : ℕ) (call : LibraryCall) (shape : ℕ) (at : Place) (args : List Value)
-      → Going n d Value (l.called τ call shape at args)
+      → Going n d Value (l.called_library τ call shape at args)
   called_going n d call shape at args =
       then_going n d (Unit {0}) Value (choose (is_some (meet_number call)) (a.meet τ at) skip) _
       (basic_choose_kept Going basic_going n d (is_some (meet_number call)) (a.meet τ at) skip (meet_going n d at)
@@ -218,7 +218,7 @@ module _ (τ : Thread) where
       then_going n d (ℕ → Option Shape) Value (know parts.private_shapes) _
       (record { by = λ σ same. here d σ same }) (λ private.
       then_going n d Scalar Value
-      (x.run τ at (library_call τ.threads τ.shapes τ.number private call shape args)) _
+      (x.library_steps τ at (library_call τ.threads τ.shapes τ.number private call shape args)) _
       (run_going n d at (library_call τ.threads τ.shapes τ.number private call shape args)
       (library_runs τ private call shape args))
       (λ v. basic_going.of_give n d Value (value.Scalar v))))
@@ -248,12 +248,12 @@ module _ (τ : Thread) where
       forget σ s Unfinished h = tt
 
       by_depth : (b : Bool) (σ : State) → is_deep σ ≡ b → depth σ.store ≡ d
-          → Leads τ d σ (bind (bind (choose b (fault DEPTH at) skip σ) (λ _. change (with_live called)))
+          → Leads τ d σ (bind (bind (choose b (fault DEPTH at) skip σ) (λ _. change (with_live call_begun)))
           (λ _. m >>= (λ v. change (with_live returned) >> give v)))
       by_depth true σ e same = stops σ
       by_depth false σ e same =
-          let υ = with_live called σ in
-          forget σ (called σ.store) (bind (m υ) (λ v. change (with_live returned) >> give v))
+          let υ = with_live call_begun σ in
+          forget σ (call_begun σ.store) (bind (m υ) (λ v. change (with_live returned) >> give v))
           (back υ (m υ) ((gm (not_deep d (depth σ.store) e same)).by υ (called_depth σ.store ∙ ap suc same)))
 
   counted : (k n d : ℕ) (A : Type 0) (m : Doing A) → Going n d A m → Going k d A m

@@ -56,7 +56,7 @@ pub record IsKept (τ : Thread) (P : Property) : Type 1 where
   pub of_notify : (n d : ℕ) (at : Place) (mark : Mark) → P n d (Unit {0}) (a.notify τ at mark)
   pub of_wait : (n d : ℕ) (at : Place) (mark : Mark) → P n d (Unit {0}) (a.wait τ at mark)
   pub of_called : (n d : ℕ) (call : LibraryCall) (shape : ℕ) (at : Place) (args : List Value)
-      → P n d Value (l.called τ call shape at args)
+      → P n d Value (l.called_library τ call shape at args)
   pub of_tick : (n d : ℕ) → P n d (Unit {0}) (a.tick τ)
   pub of_turn : (n d : ℕ) (A : Type 0) (m : Doing A) → P n d A m → P (suc n) d A (a.tick τ >> m)
   pub of_call : (n d : ℕ) (A : Type 0) (at : Place) (m : Doing A) → (d < 1000 → P n (suc d) A m)
@@ -222,7 +222,7 @@ module _ (τ : Thread) (P : Property) (K : IsKept τ P) (n d : ℕ) where
   formed_kept : (call : LibraryCall) (shape : ℕ) (at : Place) (args : List Value)
       → P n d Value (l.formed_call τ call shape at args)
   formed_kept call shape at args =
-      choose_kept (l.is_formed τ.shapes call shape args) (l.called τ call shape at args) (give (number (pos 0)))
+      choose_kept (l.is_formed τ.shapes call shape args) (l.called_library τ call shape at args) (give (number (pos 0)))
       (K.of_called n d call shape at args) (K.basic.of_give n d Value (number (pos 0)))
 
   by_exit : (test : Bool) (call : LibraryCall) (shape : ℕ) (at : Place) (args : List Value)

@@ -332,7 +332,7 @@ asks_quiet a h = record { by = (h, given_quiet) }
 pub gives_quiet : {A : Type 0} (v : A) → Quiet A (Gives v)
 gives_quiet v = record { by = tt }
 
-valued_quiet : (e : Expansion (Unit {0})) → Quiet (Unit {0}) e → Quiet Scalar (l.valued e)
+valued_quiet : (e : Expansion (Unit {0})) → Quiet (Unit {0}) e → Quiet Scalar (l.gives_zero e)
 valued_quiet e h = then_quiet e (λ u. Gives zero) h (λ u. gives_quiet zero)
 
 locked_quiet : (i : ℕ) (a : Action) → BeginsNone a → Quiet Scalar (l.with_lock i (l.asks a))

@@ -3,7 +3,7 @@
 ghost use Rattle.std.specs.Prelude.{◌≡◌, ◌≢◌, ◌≤◌, ◌<◌, ◌^◌, ℤ, true, false, pos, ◌+ℤ◌, ◌*ℤ◌, unsigned_abs, SomeIff};
 ghost use Rattle.std.specs.Prelude.{FitsSigned, Ok};
 ghost use mir.Syntax.{w128};
-ghost use Rattle.integers.specs.Integers.{is_signed, values, converted, brought, IsInteger, IsPromoted};
+ghost use Rattle.integers.specs.Integers.{is_signed, values, converted, brought, promoted, IsInteger, IsPromoted};
 ghost use Rattle.integers.specs.Operators.{bits_of};
 ghost use Rattle.upc_values.specs.Reductions as said;
 ghost use Rattle.collectives.specs.code.Reductions.{reduction_in};
@@ -16,7 +16,7 @@ use integers::{convert, lies_in, truth};
 // The kind after promotion (C99 6.3.1.1).
 fn promoted(kind: Kind) -> Kind
     requires { IsInteger kind }
-    ensures value { result ≡ said.promoted kind }
+    ensures value { result ≡ promoted kind }
     ensures kept { IsPromoted result }
 {
     match kind {

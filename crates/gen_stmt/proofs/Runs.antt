@@ -7,13 +7,12 @@ use Rattle.upc_text.specs.declared.place.Place.{Place}
 use Rattle.block_layout.specs.declared.kind.Kind.{Kind}
 use Rattle.block_layout.specs.declared.kind.Kind.TheVariants as kind
 use Rattle.block_layout.specs.declared.place.LocalPtr.TheVariants as local
-use Rattle.integers.specs.Integers.{converted}
+use Rattle.integers.specs.Integers.{converted, promoted}
 use Rattle.upc_values.specs.declared.scalar.Value.{Value}
 use Rattle.upc_values.specs.declared.scalar.Value.TheVariants as value
 use Rattle.upc_values.specs.declared.scalar.Mark.{Mark}
 use Rattle.upc_values.specs.declared.scalar.Mark.TheVariants.{Absent, Given}
 use Rattle.upc_types.specs.Types.{CType, base_of}
-use Rattle.upc_types.specs.Arithmetic.{promoted}
 use Rattle.typing_rules.specs.Rules.{label_kind}
 use Rattle.typing_rules.specs.declared.setting.Home.{Home}
 use Rattle.typing_rules.specs.declared.setting.Home.TheVariants as home

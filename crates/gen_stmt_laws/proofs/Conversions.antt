@@ -3,14 +3,14 @@ use Rattle.std.proofs.Common.{ℕ, Bool, true, false, if◌then◌else◌, List,
 use Rattle.std.proofs.Common.{nat_le, nat_lt}
 use Rattle.block_layout.specs.declared.kind.Kind.{Kind}
 use Rattle.block_layout.specs.declared.kind.Kind.TheVariants as kind
-use Rattle.integers.specs.Integers.{IsInteger, IsPromoted, is_signed, width}
+use Rattle.integers.specs.Integers.{IsInteger, IsPromoted, is_signed, width, promoted, rank}
 use Rattle.integers.specs.declared.operator.BinOp.{BinOp}
 use Rattle.integers.specs.declared.operator.BinOp.TheVariants.{ShiftLeft, ShiftRight}
 use Rattle.upc_values.specs.Lists.{Each}
 use Rattle.upc_types.specs.Types.{CType, Base, Void, Integer, Struct, Array, Pointer, LockObject, base_of}
 use Rattle.upc_types.specs.Types.{block_of}
 use Rattle.upc_types.specs.Same.{is_lock_object, same_block}
-use Rattle.upc_types.specs.Arithmetic.{promoted, unsigned_of, mixed, common, usual, rank}
+use Rattle.upc_types.specs.Arithmetic.{unsigned_of, mixed, common, usual}
 use Rattle.std.specs.Prelude.{is_some}
 use Rattle.typing_rules.specs.Constants.{working_kind, right_kind}
 use Rattle.typing_rules.specs.Values.{base_kind, integer_kind}

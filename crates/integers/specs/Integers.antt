@@ -1,6 +1,6 @@
 -- The integer kinds, their ranges and conversions between them (C99 6.2.5, 6.3.1.3).
 use Rattle.std.specs.Prelude.{IsTrue, ℕ, ◌^◌, ◌≡◌, ◌&&◌, Bool, true, false, if◌then◌else◌, ℤ, pos, neg_ℤ, ◌+ℤ◌, ◌-ℤ◌}
-use Rattle.std.specs.Prelude.{◌*ℤ◌, ◌≤ℤ◌, ◌<ℤ◌, int_le, int_lt, Result, Ok, Err}
+use Rattle.std.specs.Prelude.{nat_lt, ◌*ℤ◌, ◌≤ℤ◌, ◌<ℤ◌, int_le, int_lt, Result, Ok, Err}
 use Rattle.block_layout.specs.Floor.{floor_mod}
 use Rattle.block_layout.specs.declared.kind.Kind.{Kind}
 use Rattle.block_layout.specs.declared.kind.Kind.TheVariants.{Char, UChar, Short, UShort, Int, UInt, Long, ULong}
@@ -54,6 +54,22 @@ IsInteger (Shared n b) = ⊥
 IsInteger Lock = ⊥
 IsInteger (Private n) = ⊥
 IsInteger kind = Unit {0}
+
+-- The conversion rank of an integer kind (C99 6.3.1.1), 0 of another.
+abbrev pub rank : Kind → ℕ
+rank Char = 1
+rank UChar = 1
+rank Short = 2
+rank UShort = 2
+rank Int = 3
+rank UInt = 3
+rank Long = 4
+rank ULong = 4
+rank kind = 0
+
+-- The kind of an integer after promotion: int for each kind of lower rank, as int has all its values (C99 6.3.1.1).
+abbrev pub promoted : Kind → Kind
+promoted kind = if nat_lt (rank kind) (rank Int) then Int else kind
 
 -- The kind is an integer kind that promotion leaves as it is (C99 6.3.1.1).
 abbrev pub IsPromoted : Kind → Type 0

@@ -8,7 +8,7 @@ use Rattle.block_layout.specs.declared.place.LocalPtr.{LocalPtr}
 use Rattle.upc_values.specs.declared.scalar.Value.{Value}
 use Rattle.private_store.specs.declared.frame.Block.{Block}
 use Rattle.private_store.specs.declared.frame.Call.{Call}
-use Rattle.private_store.specs.Live.{Live, youngest, older, open_blocks, left_from, left, called, returned_from}
+use Rattle.private_store.specs.Live.{Live, youngest, older, open_blocks, left_from, left, call_begun, returned_from}
 use Rattle.private_store.specs.Live.{returned, recounted_from, controls_in, controls}
 use Rattle.private_store.specs.Cells.{Cell, stored, reached, put_in}
 use Rattle.thread_steps.specs.layer.Parts.{one_more, one_less}
@@ -70,7 +70,7 @@ module _ {X : Type 0} where
 -- ---- calls
 
 -- The end of a call brings back the calls before it.
-pub call_back : (s t : Live) → t.calls ≡ (called s).calls → (returned t).calls ≡ s.calls
+pub call_back : (s t : Live) → t.calls ≡ (call_begun s).calls → (returned t).calls ≡ s.calls
 call_back s t h =
     let c : Call = record { controls = controls s; blocks = length s.blocks; objects = length s.objects } in
     let young : youngest t.calls ≡ Some c = ap youngest h ∙ youngest_last s.calls c in

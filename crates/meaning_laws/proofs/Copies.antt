@@ -429,7 +429,7 @@ asks_takes a = record { by = given_takes }
 gives_takes : (v : Scalar) → Takes Scalar (Gives v)
 gives_takes v = record { by = tt }
 
-valued_takes : (e : Expansion (Unit {0})) → Takes (Unit {0}) e → Takes Scalar (l.valued e)
+valued_takes : (e : Expansion (Unit {0})) → Takes (Unit {0}) e → Takes Scalar (l.gives_zero e)
 valued_takes e h = then_takes e (λ u. Gives sc.zero) h (λ u. gives_takes sc.zero)
 
 locked_takes : (i : ℕ) (a : Action) → Takes Scalar (l.with_lock i (l.asks a))

@@ -11,7 +11,7 @@ use Rattle.upc_values.specs.declared.action.Action.TheVariants as act
 use Rattle.upc_values.specs.declared.action.Reply.{Reply}
 use Rattle.upc_values.specs.declared.action.Reply.TheVariants as reply
 use Rattle.upc_values.specs.declared.record.ToldEnd.TheVariants as told
-use Rattle.private_store.specs.Live.{Live, entered, left, called, returned, controls}
+use Rattle.private_store.specs.Live.{Live, entered, left, call_begun, returned, controls}
 use Rattle.thread_steps.specs.States.{Res, Val, Over, Unfinished, bind, Doing, ◌>>=◌, give}
 use Rattle.private_store.specs.declared.frame.Call.{Call}
 use Rattle.thread_steps.specs.States.{Thread, State, ◌>>◌, skip, know, change, choose, over, fault}
@@ -77,9 +77,9 @@ pub call_brings : {A : Type 0} (V : A → Type 0) (at : Place) (m : Doing A) →
     → Brings A V (b.begin_call at >> (m >>= (λ v. b.end_call >> give v)))
 unfolding b.begin_call b.end_call
 call_brings V at m h =
-    tested_brings V (fault_if parts.is_deep DEPTH at) called (m >>= (λ v. change (b.with_live returned) >> give v))
+    tested_brings V (fault_if parts.is_deep DEPTH at) call_begun (m >>= (λ v. change (b.with_live returned) >> give v))
     (fault_if_brings parts.is_deep DEPTH at)
-    (between_brings V V called returned m (λ w. w) (λ s i. i) (λ s i. returned_filled s i) call_back h (λ w g. g))
+    (between_brings V V call_begun returned m (λ w. w) (λ s i. i) (λ s i. returned_filled s i) call_back h (λ w g. g))
 
 -- What is done in a controlling body.
 pub controlled_brings : {A B : Type 0} (V : A → Type 0) (W : B → Type 0) (m : Doing A) (f : A → B) → Brings A V m

@@ -87,8 +87,8 @@ module _ (τ : Thread) where
       first_brings Any V (x.save_private kind at q (value.Scalar v)) _
       (save_private_brings τ kind at q (value.Scalar v)) (λ u g. expanded_brings V at after h)
 
-  run_brings : {A : Type 0} (V : A → Type 0) (at : Place) (e : Expansion A) → EndsIn V e → Brings A V (x.run τ at e)
-  unfolding x.run
+  run_brings : {A : Type 0} (V : A → Type 0) (at : Place) (e : Expansion A) → EndsIn V e → Brings A V (x.library_steps τ at e)
+  unfolding x.library_steps
   run_brings V at e h = expanded_brings V at e h
 
   meet_brings : (at : Place) → Brings (Unit {0}) Any (a.meet τ at)
@@ -105,14 +105,14 @@ module _ (τ : Thread) where
   called_brings : (V : Value → Type 0) (call_ : LibraryCall) (shape : ℕ) (at : Place) (args : List Value)
       → ((private : ℕ → Option Shape)
       → EndsIn (AsValue V) (library_call τ.threads τ.shapes τ.number private call_ shape args))
-      → Brings Value V (l.called τ call_ shape at args)
+      → Brings Value V (l.called_library τ call_ shape at args)
   called_brings V call_ shape at args h =
       let meets = choose (is_some (meet_number call_)) (a.meet τ at) skip in
       first_brings Any V meets _
       (choose_brings Any (is_some (meet_number call_)) (a.meet τ at) skip (meet_brings at) skip_brings) (λ u v.
       first_brings Any V (know parts.private_shapes) _ (know_brings parts.private_shapes) (λ private w.
       let e = library_call τ.threads τ.shapes τ.number private call_ shape args in
-      first_brings (AsValue V) V (x.run τ at e) _ (run_brings (AsValue V) at e (h private)) (λ z g.
+      first_brings (AsValue V) V (x.library_steps τ at e) _ (run_brings (AsValue V) at e (h private)) (λ z g.
       give_brings V (value.Scalar z) g)))
 
   exit_brings : (V : Value → Type 0) (v : ℤ) → Brings Value V (a.exit τ v)
@@ -131,7 +131,7 @@ module _ (τ : Thread) where
   library_by V call_ shape at args n h =
       choose_brings V (parts.is_exit call_) (a.exit τ (parts.first_number args)) (l.formed_call τ call_ shape at args)
       (exit_brings V (parts.first_number args))
-      (choose_brings V (l.is_formed τ.shapes call_ shape args) (l.called τ call_ shape at args)
+      (choose_brings V (l.is_formed τ.shapes call_ shape args) (l.called_library τ call_ shape at args)
       (give (number (pos 0))) (called_brings V call_ shape at args h) (give_brings V (number (pos 0)) n))
 
   pub library_any : (call_ : LibraryCall) (shape : ℕ) (at : Place) (args : List Value)
@@ -365,7 +365,7 @@ module _ (τ : Thread) where
     unfolding l.library
     all_alloc_by shape at x y m =
         let vs = number x ∷ number y ∷ [] in
-        let calling = l.called τ c.AllAlloc shape at vs in
+        let calling = l.called_library τ c.AllAlloc shape at vs in
         subst (λ (t : Bool). Brings Value IsStart (choose t calling (give (number (pos 0))))) (sym m)
         (called_brings IsStart c.AllAlloc shape at vs (λ private. all_alloc_ends private shape x y m))
 

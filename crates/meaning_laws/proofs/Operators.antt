@@ -7,7 +7,7 @@ use Rattle.upc_text.specs.declared.place.Place.{Place}
 use Rattle.block_layout.specs.declared.kind.Kind.{Kind}
 use Rattle.block_layout.specs.declared.kind.Kind.TheVariants as kind
 use Rattle.integers.specs.Integers as integers
-use Rattle.integers.specs.Integers.{converted}
+use Rattle.integers.specs.Integers.{converted, promoted}
 use Rattle.integers.specs.Operators.{binary_of, unary_of}
 use Rattle.integers.specs.declared.operator.BinOp.{BinOp}
 use Rattle.integers.specs.declared.operator.BinOp.TheVariants as op
@@ -21,7 +21,6 @@ use Rattle.upc_types.specs.Types as types
 use Rattle.upc_types.specs.Types.{CType, Base, Qualified, Structs, base_of, block_of}
 use Rattle.upc_types.specs.Cells.{pointer_kind}
 use Rattle.upc_types.specs.Cells as cells
-use Rattle.upc_types.specs.Arithmetic.{promoted}
 use Rattle.typing_rules.specs.declared.attribute.Constant.{Constant}
 use Rattle.typing_rules.specs.Values.{base_target, base_kind, value_base, value_type, present}
 use Rattle.typing_rules.specs.Constants.{working_kind, right_kind}

@@ -10,7 +10,7 @@ use Rattle.std.proofs.Math.Seq.{drop-append_seam}
 use Rattle.block_layout.specs.declared.kind.Shape.{Shape}
 use Rattle.private_store.specs.declared.frame.Block.{Block}
 use Rattle.private_store.specs.declared.frame.Call.{Call}
-use Rattle.private_store.specs.Live.{Live, youngest, blocks_before, controls, entered, called}
+use Rattle.private_store.specs.Live.{Live, youngest, blocks_before, controls, entered, call_begun}
 use Rattle.private_store.specs.Live.{open_blocks, local_number}
 use Rattle.meaning_laws.specs.code.Scopes.{HasOuter, HasScope}
 use Rattle.meaning_laws.specs.code.Laws.{NamesAreFound}
@@ -61,7 +61,7 @@ module _ (n : ℕ) where
       let found = outer_found (reverse (open_blocks s)) (outer_reverse (open_blocks s) h) in
       (found.0.first + (n - found.0.from), ap (option_map (λ (b : Block). b.first + (n - b.from))) found.1)
 
-called_scope : (shapes : List Shape) (s : Live) → HasScope (entered 0 shapes (called s))
+called_scope : (shapes : List Shape) (s : Live) → HasScope (entered 0 shapes (call_begun s))
 called_scope shapes s =
     let c : Call = record { controls = controls s; blocks = length s.blocks; objects = length s.objects } in
     let b : Block = record { from = 0; first = s.next; objects = length s.objects } in

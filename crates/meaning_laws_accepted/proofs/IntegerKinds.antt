@@ -6,9 +6,9 @@ use Rattle.integers.specs.declared.operator.BinOp.{BinOp}
 use Rattle.integers.specs.declared.operator.BinOp.TheVariants as op
 use Rattle.integers.specs.declared.operator.UnOp.{UnOp}
 use Rattle.integers.specs.declared.operator.UnOp.TheVariants as un
-use Rattle.integers.specs.Integers.{IsInteger, width, is_signed}
+use Rattle.integers.specs.Integers.{IsInteger, width, is_signed, promoted, rank}
 use Rattle.integers.specs.Operators.{binary_kind, unary_kind}
-use Rattle.upc_types.specs.Arithmetic.{rank, promoted, unsigned_of, mixed, common, usual}
+use Rattle.upc_types.specs.Arithmetic.{unsigned_of, mixed, common, usual}
 use Rattle.upc_types.specs.Types as types
 use Rattle.upc_types.specs.Types.{Base}
 use Rattle.typing_rules.specs.Values.{base_kind}

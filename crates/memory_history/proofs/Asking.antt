@@ -12,7 +12,7 @@ use Rattle.upc_values.specs.declared.journal.Entry.{Entry}
 use Rattle.upc_values.specs.Shapes.{fits_cell}
 use Rattle.upc_values.specs.Calls.{Call, Allocates, Makes_lock, Frees, Frees_lock, Copies, Permutes, Reduces, Reduces_prefixes, Other, call_of}
 use Rattle.upc_values.specs.Openings.{Opening}
-use Rattle.upc_values.specs.History.{reply, led_reply, valued}
+use Rattle.upc_values.specs.History.{reply, led_reply, value_reply}
 use Rattle.upc_values.specs.Formed as formed
 use Rattle.upc_values.specs.Formed.{IsWellFormed}
 use Rattle.shared_heap.specs.layer.Heap.{cell_at}
@@ -157,7 +157,7 @@ module _ (o : Opening) (es : List Entry) (p : PartsState) (k : IsKept o es) (a :
       ]
 
   pub answer-same : (t : ℕ) (x : Action) → t < o.threads → IsWellFormed o es x → reply o es t x ≡ answer t x p
-  answer-same t (act.Read l s) b f = ap valued (held-answer o es p.heap l a.heap)
+  answer-same t (act.Read l s) b f = ap value_reply (held-answer o es p.heap l a.heap)
   answer-same t (act.Write s l v) b f = refl
   answer-same t act.Fence b f = refl
   answer-same t act.Beat b f = refl

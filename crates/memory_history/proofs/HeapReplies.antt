@@ -16,7 +16,7 @@ use Rattle.upc_values.specs.Shapes.{fits_cell}
 use Rattle.upc_values.specs.Calls.{Allocates, Frees, call_of}
 use Rattle.upc_values.specs.Drain.{or_else}
 use Rattle.upc_values.specs.Openings.{Opening, IsOpening, bytes_of, cell_of, is_named, initial_of}
-use Rattle.upc_values.specs.History.{objects, made, alloc_reply, is_released, free_reply, led_reply, held, valued, reply, IsLegal}
+use Rattle.upc_values.specs.History.{objects, made, alloc_reply, is_released, free_reply, led_reply, held, value_reply, reply, IsLegal}
 use Rattle.upc_values.specs.Formed.{knows, is_known, is_home, may_alloc, may_call, may_ask, IsWellFormed, AreWellFormed}
 use Rattle.shared_heap.specs.layer.Heap.{HeapState, all_objects, cell_at, written, content, start_of, new_object, grow_answer, is_live_start, release_answer}
 use Rattle.memory_history.specs.code.HeapAfter.{HeapAfter}
@@ -112,7 +112,7 @@ held-answer o es h l a =
 pub read-answer : (o : Opening) (es : List Entry) (h : HeapState) (t : ℕ) (l : Loc) (s : Bool) (v : Scalar)
     → HeapAfter o es h
     → Some v ≡ content h l → reply o es t (act.Read l s) ≡ Some (Value v)
-read-answer o es h t l s v a e = ap valued (held-answer o es h l a ∙ sym e)
+read-answer o es h t l s v a e = ap value_reply (held-answer o es h l a ∙ sym e)
 
 -- ---- allocations
 

@@ -17,7 +17,7 @@ use Rattle.upc_values.specs.Scalars.{same_loc}
 use Rattle.upc_values.specs.Shapes.{fits_cell}
 use Rattle.upc_values.specs.Drain.{entry_of, written, or_else, last_written}
 use Rattle.upc_values.specs.Openings.{Opening, IsOpening, cell_of, is_named, initial_of}
-use Rattle.upc_values.specs.History.{objects, meets, leader, held, valued, reply, IsLegal}
+use Rattle.upc_values.specs.History.{objects, meets, leader, held, value_reply, reply, IsLegal}
 use Rattle.upc_values.specs.Formed.{is_known, is_read, fits_after, IsWellFormed, AreWellFormed}
 use Rattle.upc_values.proofs.Fitting.{lawful-fits, written-fits}
 use Rattle.upc_values.proofs.Known.{lawful-known}
@@ -83,7 +83,7 @@ initial-read o xs l v i e =
     let p = with_objects o xs in
     subst (λ z. is_read o.threads o.shapes (cell_of o z l) v ≡ true) (append-nil xs)
     (lawful-fits p [] 0 (act.Read l false) (Value v) i tt tt refl
-    (ap (λ z. valued (initial_of o z l)) (append-nil xs) ∙ ap valued e))
+    (ap (λ z. value_reply (initial_of o z l)) (append-nil xs) ∙ ap value_reply e))
 
 initial-fits : (o : Opening) (xs : List ObjectRef) (l : Loc) → IsOpening (with_objects o xs)
     → FitsIn (cell_of o xs l) (initial_of o xs l)
@@ -137,12 +137,12 @@ pub read-fits : (o : Opening) (es : List Entry) (t : ℕ) (l : Loc) (s : Bool) (
 read-fits o es t l s r i g f w e = go (held o es l) refl
   where
     go : (v : Option Scalar) → held o es l ≡ v → fits_after o es (act.Read l s) r ≡ true
-    go None q = let none : None ≡ Some r = sym (ap valued q) ∙ e in absurd cc
+    go None q = let none : None ≡ Some r = sym (ap value_reply q) ∙ e in absurd cc
     go (Some v) q =
-        let given : Some (Value v) ≡ Some r = sym (ap valued q) ∙ e in
+        let given : Some (Value v) ≡ Some r = sym (ap value_reply q) ∙ e in
         let same : Value v ≡ r = cc in
         subst (λ z. fits_after o es (act.Read l s) z ≡ true) same
-        (value-read o es t l s v i g f w (ap valued q)
+        (value-read o es t l s v i g f w (ap value_reply q)
         (subst (FitsIn (cell_of o (objects o es) l)) q (held-fits o es i g f l)))
 
 -- the value of a write that may be asked for may be read

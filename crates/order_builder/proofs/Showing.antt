@@ -5,7 +5,7 @@ use Rattle.block_layout.specs.declared.place.Loc.{Loc}
 use Rattle.upc_values.specs.declared.scalar.Scalar.{Scalar}
 use Rattle.upc_values.specs.declared.journal.Entry.{Entry}
 use Rattle.upc_values.specs.Operations.{accesses}
-use Rattle.upc_values.specs.Drain.{oldest_out, emptied, passed, commit_of, Commit, Walk, entries_in, pending_value, last_written, changed, with_read, combined, put, looked_up, is_done, is_value}
+use Rattle.upc_values.specs.Drain.{oldest_out, emptied, passed, commit_of, Commit, Walk, entries_in, pending_value, last_written, changed, with_read, combined, put_pending, looked_up, is_done, is_value}
 use Rattle.order_builder.specs.declared.names.Named.{Named}
 use Rattle.order_builder.specs.declared.entry.EntryRef.{EntryRef}
 use Rattle.order_builder.specs.declared.entry.KeptCommit.{KeptCommit}
@@ -175,9 +175,9 @@ is-changed s r n t b c next emitted agrees note count is =
     }
 
 -- a write that is combined with the pending one
-pub put-shown : (l : Loc) (e : EntryRef) (s t : program.Walk) (n : ℕ) (v : Scalar) (ns : List Named) (ms : List KeptCommit) → IsLast l (kept_entries s.pending.items) n v → ns ≡ map named (accesses (entry_in e)) → ((d : KeptCommit) → ms ≡ set s.pending.items n (views.combined e ns (get_or s.pending.items n d))) → IsChanged s t ms (is_done e.reply.now) → (w : Walk) → IsShown w s → IsShown (put l (entry_in e) (pending_value l w.pending) w) t
+pub put-shown : (l : Loc) (e : EntryRef) (s t : program.Walk) (n : ℕ) (v : Scalar) (ns : List Named) (ms : List KeptCommit) → IsLast l (kept_entries s.pending.items) n v → ns ≡ map named (accesses (entry_in e)) → ((d : KeptCommit) → ms ≡ set s.pending.items n (views.combined e ns (get_or s.pending.items n d))) → IsChanged s t ms (is_done e.reply.now) → (w : Walk) → IsShown w s → IsShown (put_pending l (entry_in e) (pending_value l w.pending) w) t
 put-shown l e s t n v ns ms last q there is w h =
-    subst (λ o. IsShown (put l (entry_in e) o w) t) (sym (value-kept l s.pending.items w.pending n v last h.pending))
+    subst (λ o. IsShown (put_pending l (entry_in e) o w) t) (sym (value-kept l s.pending.items w.pending n v last h.pending))
     record {
       next = is.next ∙ ap (λ m. m + 1) h.next;
       emitted = subst (λ z. IsEmitted z w.emitted) (sym is.emitted) h.emitted;

@@ -182,7 +182,7 @@ impl<'a> Walk<'a> {
     // pending, as the last, and of 64 the oldest is emitted.
     fn put(&mut self, alloc: Global, loc: Loc, latest: EntryRef<'a>) -> Result<(), OutOfMemory>
         ensures { OnOk result (IsAfter
-            (λ w. drain.put loc (entry_in latest.entry) (pending_value loc w.pending) w) self.old self.new) }
+            (λ w. drain.put_pending loc (entry_in latest.entry) (pending_value loc w.pending) w) self.old self.new) }
     {
         match find(&self.pending, loc) {
             Some((at, _)) => {

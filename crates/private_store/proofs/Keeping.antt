@@ -8,7 +8,7 @@ use Rattle.std.proofs.lemmas.List.Sums.{sum_by-append, sum_by-cons, sum_by-set}
 use Rattle.block_layout.specs.declared.kind.Shape.{Shape}
 use Rattle.upc_values.specs.declared.scalar.Value.{Value}
 use Rattle.private_store.specs.declared.frame.Block.{Block}
-use Rattle.private_store.specs.Live.{Thing, bytes_of, bytes_in, blank_thing, blank_things}
+use Rattle.private_store.specs.Live.{Thing, thing_bytes, bytes_in, blank_thing, blank_things}
 use Rattle.private_store.specs.code.Kept.{AreNumbered, IsKept}
 use Rattle.private_store.proofs.CellKinds.{few_shapes}
 
@@ -23,7 +23,7 @@ blank_number [] n k d lt = absurd (omega arith)
 blank_number (s ∷ shapes) n ℕ.zero d lt = omega arith
 blank_number (s ∷ shapes) n (ℕ.suc k) d lt = let e = blank_number shapes (n + 1) k d (omega arith) in omega arith
 
-pub blank_bytes : (n : ℕ) (shapes : List Shape) → bytes_of (blank_things n shapes) ≡ bytes_in shapes
+pub blank_bytes : (n : ℕ) (shapes : List Shape) → thing_bytes (blank_things n shapes) ≡ bytes_in shapes
 blank_bytes n [] = refl
 blank_bytes n (s ∷ shapes) =
     sum_by-cons (λ (x : Thing). x.shape.size) (blank_thing n s) (blank_things (n + 1) shapes)
@@ -113,7 +113,7 @@ numbered_taken objects n up i j d lt l =
     let h = up i j d lt (omega arith) in omega arith
 
 pub kept_taken : (objects : List Thing) (blocks : List Block) (next space n m ended : ℕ) → IsKept objects blocks next space
-    → bytes_of (take n objects) + ended ≡ bytes_of objects → IsKept (take n objects) (take m blocks) next (space - ended)
+    → thing_bytes (take n objects) + ended ≡ thing_bytes objects → IsKept (take n objects) (take m blocks) next (space - ended)
 kept_taken objects blocks next space n m ended k e =
     record {
       numbered = numbered_taken objects n k.numbered;

@@ -17,7 +17,7 @@ use Rattle.private_store.specs.declared.object.Object.{Object}
 use Rattle.private_store.specs.declared.row_shapes.Known.{Known}
 use Rattle.private_store.specs.declared.held.Held.{Held}
 use Rattle.private_store.specs.code.Held.{held_value, held_values}
-use Rattle.private_store.specs.Live.{Thing, blank_thing, bytes_of}
+use Rattle.private_store.specs.Live.{Thing, blank_thing, thing_bytes}
 use Rattle.private_store.specs.code.Kept.{AreNumbered, CellIs, IsFilled}
 use Rattle.private_store.specs.code.Laid.{AreLaid, AreRows, IsForm, IsLaid, IsLent, IsSound, form_shape, part, row_shape, thing_of, things_of}
 use Rattle.private_store.proofs.Objects.{blank_filled, filled_length, filled_set}
@@ -344,7 +344,7 @@ numbers_rise vs objects up i j d lt l =
     let m = length-map objects (thing_of vs) in
     let h = up i j (thing_of vs d) lt (omega arith) in omega arith
 
-pub bytes_are : (vs : Values) (objects : Objects) → All IsSound objects → sum_by (λ (o : Object). o.size) objects ≡ bytes_of (things_of vs objects)
+pub bytes_are : (vs : Values) (objects : Objects) → All IsSound objects → sum_by (λ (o : Object). o.size) objects ≡ thing_bytes (things_of vs objects)
 bytes_are vs [] h = refl
 bytes_are vs (o ∷ os) h =
     let a = sum_by-cons (λ (x : Object). x.size) o os in
@@ -353,13 +353,13 @@ bytes_are vs (o ∷ os) h =
     let s = (h 0 o (omega arith)).size in omega arith
 
 pub ended : (vs : Values) (objects : Objects) (n : ℕ) → All IsSound objects
-    → bytes_of (take n (things_of vs objects)) + sum_by (λ (o : Object). o.size) (take (length objects - n) (drop n objects)) ≡ bytes_of (things_of vs objects)
+    → thing_bytes (take n (things_of vs objects)) + sum_by (λ (o : Object). o.size) (take (length objects - n) (drop n objects)) ≡ thing_bytes (things_of vs objects)
 ended vs objects n h =
     let a = sum_by-take-drop (λ (o : Object). o.size) objects n in
     let b = ap (sum_by (λ (o : Object). o.size)) (take_rest objects n) in
     let c = bytes_are vs objects h in
     let d = bytes_are vs (take n objects) (All-take IsSound n objects h) in
-    let e = ap bytes_of (take-map (thing_of vs) n objects) in omega arith
+    let e = ap thing_bytes (take-map (thing_of vs) n objects) in omega arith
 
 pub sounds : (objects : Objects) (vs : Values) (known : List Known) → AreLaid objects vs known → All IsSound objects
 sounds objects vs known laid k d lt = (laid.laid k d lt).sound

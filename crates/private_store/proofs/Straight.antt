@@ -15,7 +15,7 @@ use Rattle.block_layout.specs.declared.kind.Kind.{Kind}
 use Rattle.block_layout.specs.declared.place.LocalPtr.TheVariants as local
 use Rattle.upc_values.specs.declared.scalar.Value.{Value}
 use Rattle.private_store.specs.Cells.{loaded}
-use Rattle.private_store.specs.Live.{Live, Thing, blank_things, blocks_before, bytes_in, bytes_of, local_number, recounted, recounted_from, youngest}
+use Rattle.private_store.specs.Live.{Live, Thing, blank_things, blocks_before, bytes_in, thing_bytes, local_number, recounted, recounted_from, youngest}
 use Rattle.private_store.specs.code.Locals.{IsStored, IsStoredBy}
 use Rattle.private_store.specs.code.Straight.{AreMarked, IsBack, IsNamed, IsNames, IsStanding, IsStraight, IsWithin, here, name_in, recounted_calls}
 use Rattle.private_store.proofs.Keeping.{blank_length, blank_number, few_objects, kept_entered, kept_set, kept_taken, renumbered}
@@ -282,13 +282,13 @@ module _ (s : Live) (space names base : ℕ) (marks : List Mark) (h : IsStanding
       }
 
   pub standing_left : (after : List Mark) (i j ended : ℕ) (m : Mark) (os : List Thing) (bs : List Block) (calls : List Call) (few opens before : ℕ)
-      → os ≡ take i s.objects → bs ≡ take j s.blocks → bytes_of os + ended ≡ bytes_of s.objects → few ≡ length os → opens ≡ length bs
+      → os ≡ take i s.objects → bs ≡ take j s.blocks → thing_bytes os + ended ≡ thing_bytes s.objects → few ≡ length os → opens ≡ length bs
       → before ≡ blocks_before (youngest calls) → IsBack marks after few opens before m
       → IsStanding (record { objects = os; blocks = bs; calls = calls; next = s.next }) (space - ended) m.names m.base after
   standing_left after i j ended m os bs calls few opens before e f bytes a b c back =
       let there : IsBack marks after (length (take i s.objects)) (length (take j s.blocks)) (blocks_before (youngest calls)) m =
       rw (← e, ← f, ← a, ← b, ← c) back in
-      let left : bytes_of (take i s.objects) + ended ≡ bytes_of s.objects = rw (← e) bytes in
+      let left : thing_bytes (take i s.objects) + ended ≡ thing_bytes s.objects = rw (← e) bytes in
       rw (e, f)
       record {
         kept = kept_taken s.objects s.blocks s.next space i j ended h.kept left;

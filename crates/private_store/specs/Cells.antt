@@ -47,26 +47,26 @@ reached (local.Private number offset) kind things = cell_in (thing number things
 reached (local.Shared o t offset) kind things = Err PRIVATE_RANGE
 
 -- The value of a cell that an access of this kind reaches, or the code of its run error.
-abbrev pub value_in : Kind → Result Cell ℕ → Result Value ℕ
-value_in kind (Ok c) = Ok (slice_index_or c.object.values c.place (blank_value kind))
-value_in kind (Err code) = Err code
+abbrev pub cell_value : Kind → Result Cell ℕ → Result Value ℕ
+cell_value kind (Ok c) = Ok (slice_index_or c.object.values c.place (blank_value kind))
+cell_value kind (Err code) = Err code
 
 -- What a read of this kind through a pointer gives: the value of the cell, or the code of the run error (C99 6.5).
 abbrev pub loaded : LocalPtr → Kind → Live → Result Value ℕ
-loaded p kind s = value_in kind (reached p kind s.objects)
+loaded p kind s = cell_value kind (reached p kind s.objects)
 
 -- The object with another value in one of its cells.
 abbrev pub changed : Cell → Value → Thing
 changed c v = record c.object { values = slice_set c.object.values c.place v }
 
 -- A cell has another value, and all others keep theirs.
-abbrev pub put : Cell → Value → Live → Live
-put c v s =
+abbrev pub cell_set : Cell → Value → Live → Live
+cell_set c v s =
     record s { objects = map (λ x. if x.number == c.object.number then changed c v else x) s.objects }
 
 -- What lives after a write to a cell that an access reaches, or the code of its run error.
 abbrev pub put_in : Result Cell ℕ → Value → Live → Result Live ℕ
-put_in (Ok c) v s = Ok (put c v s)
+put_in (Ok c) v s = Ok (cell_set c v s)
 put_in (Err code) v s = Err code
 
 -- What lives after a write through a pointer, or the code of the run error (C99 6.5.16).

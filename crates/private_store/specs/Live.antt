@@ -26,8 +26,8 @@ abbrev pub thing : ℕ → List Thing → Option Thing
 thing number things = find (λ x. x.number == number) things
 
 -- The bytes of some objects.
-abbrev pub bytes_of : List Thing → ℕ
-bytes_of things = sum_by (λ x. x.shape.size) things
+abbrev pub thing_bytes : List Thing → ℕ
+thing_bytes things = sum_by (λ x. x.shape.size) things
 
 -- The bytes of objects of these shapes.
 abbrev pub bytes_in : List Shape → ℕ
@@ -90,8 +90,8 @@ abbrev pub controls : Live → ℕ
 controls s = controls_in (youngest s.calls)
 
 -- A call begins, in as many bodies of controlling upc_foralls as its caller (C99 6.5.2.2, UPC 6.6.2).
-abbrev pub called : Live → Live
-called s =
+abbrev pub call_begun : Live → Live
+call_begun s =
     record s {
       calls = s.calls ++ record { controls = controls s; blocks = length s.blocks; objects = length s.objects } ∷ [];
     }

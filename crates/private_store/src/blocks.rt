@@ -6,7 +6,7 @@ ghost use Rattle.std.specs.List.{find};
 ghost use Rattle.block_layout.specs.Shapes.{IsShape};
 ghost use Rattle.upc_values.specs.Lists.{Each};
 ghost use Rattle.private_store.specs.Live as live;
-ghost use Rattle.private_store.specs.Live.{youngest, bytes_of, bytes_in, blank_things};
+ghost use Rattle.private_store.specs.Live.{youngest, thing_bytes, bytes_in, blank_things};
 ghost use Rattle.private_store.specs.code.Straight.{recounted_calls};
 
 use crate::frame::{Block, Call};
@@ -32,9 +32,9 @@ pub(crate) fn fit(shapes: &[Shape], most: usize) -> bool
 
 /// Ends all objects but the first `kept`, and answers how many bytes they had.
 pub(crate) fn end_objects(objects: &mut ObjectList, kept: usize) -> usize
-    requires { bytes_of objects.old ≤ 1048576 }
+    requires { thing_bytes objects.old ≤ 1048576 }
     ensures items { objects.new ≡ take kept objects.old }
-    ensures bytes { bytes_of objects.new + result ≡ bytes_of objects.old }
+    ensures bytes { thing_bytes objects.new + result ≡ thing_bytes objects.old }
 {
     let bytes = objects.bytes_behind(kept);
     objects.truncate(kept);

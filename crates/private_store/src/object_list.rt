@@ -7,7 +7,7 @@ ghost use Rattle.std.specs.List.{position};
 ghost use Rattle.block_layout.specs.Shapes.{IsShape};
 ghost use Rattle.upc_values.specs.declared.scalar.Value.{Value};
 ghost use Rattle.upc_values.specs.Shapes as shapes;
-ghost use Rattle.private_store.specs.Live.{Thing, blank_thing, bytes_of};
+ghost use Rattle.private_store.specs.Live.{Thing, blank_thing, thing_bytes};
 ghost use Rattle.private_store.specs.code.Kept.{AreNumbered, CellIs, IsPlace};
 
 use crate::held::Held;
@@ -162,8 +162,8 @@ impl ObjectList {
 
     /// How many bytes all objects but the first `kept` have.
     pub(crate) fn bytes_behind(&self, kept: usize) -> usize
-        requires { bytes_of self.now ≤ 1048576 }
-        ensures { bytes_of (take kept self.now) + result ≡ bytes_of self.now }
+        requires { thing_bytes self.now ≤ 1048576 }
+        ensures { thing_bytes (take kept self.now) + result ≡ thing_bytes self.now }
     {
         if kept >= self.list.len() {
             return 0;

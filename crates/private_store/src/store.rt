@@ -6,7 +6,7 @@ ghost use Rattle.std.specs.Prelude.{slice_index_or};
 ghost use Rattle.block_layout.specs.Shapes.{IsShape};
 ghost use Rattle.upc_values.specs.Lists.{Each};
 ghost use Rattle.upc_values.specs.Shapes as shapes;
-ghost use Rattle.private_store.specs.Live.{thing, bytes_of, bytes_in, entered, left, called, returned, controls};
+ghost use Rattle.private_store.specs.Live.{thing, thing_bytes, bytes_in, entered, left, call_begun, returned, controls};
 ghost use Rattle.private_store.specs.Live.{recounted, local_number};
 ghost use Rattle.private_store.specs.Beginnings.{IsBeginning, begun, blank};
 ghost use Rattle.private_store.specs.Cells.{loaded, stored, IsPrivate};
@@ -134,7 +134,7 @@ impl Store {
         ensures first { IfOk result (λ first. first ≡ self.old.next) }
         ensures ok { OnOk result (self.new ≡ entered from shapes.now self.old) }
         ensures space { IsErrOf result (Refused.Error PRIVATE_SPACE)
-            ↔ (MOST_BYTES < bytes_of self.old.objects + bytes_in shapes.now) }
+            ↔ (MOST_BYTES < thing_bytes self.old.objects + bytes_in shapes.now) }
         ensures codes { IfErr result (λ e. (e ≡ Refused.Error PRIVATE_SPACE) ⊎ (e ≡ Refused.Memory)) }
         ensures err { OnErr result (self.new ≡ self.old) }
     {
@@ -191,7 +191,7 @@ impl Store {
 
     /// Begins a call, in as many controlling bodies as its caller. Where `MOST_CALLS` are active the answer is `DEPTH`.
     pub fn push_call(&mut self) -> Result<(), Refused>
-        ensures ok { OnOk result (self.new ≡ called self.old) }
+        ensures ok { OnOk result (self.new ≡ call_begun self.old) }
         ensures depth { IsErrOf result (Refused.Error DEPTH) ↔ (MOST_CALLS ≤ length self.old.calls) }
         ensures codes { IfErr result (λ e. (e ≡ Refused.Error DEPTH) ⊎ (e ≡ Refused.Memory)) }
         ensures err { OnErr result (self.new ≡ self.old) }

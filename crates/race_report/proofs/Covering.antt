@@ -10,7 +10,7 @@ use Rattle.upc_values.specs.declared.journal.Entry.{Entry}
 use Rattle.upc_values.specs.declared.journal.Journal.{Journal}
 use Rattle.upc_values.specs.Operations.{Operation, accesses}
 use Rattle.upc_values.specs.Orders.{record_of, operations_at, placed}
-use Rattle.upc_values.specs.Drain.{Commit, commit_of, Walk, start, emptied, oldest_out, with_room, stored, passed, pending_value, changed, with_read, combined, put, looked_up, stepped, walked_from, drained, entry_of}
+use Rattle.upc_values.specs.Drain.{Commit, commit_of, Walk, start, emptied, oldest_out, with_room, stored, passed, pending_value, changed, with_read, combined, put_pending, looked_up, stepped, walked_from, drained, entry_of}
 use Rattle.upc_values.specs.Consistent.{FollowsBuffers}
 use Rattle.upc_values.specs.Lists.{Each, Has}
 use Rattle.upc_values.proofs.Membership.{has-left, has-right, has-filter, each-has, each-append}
@@ -74,7 +74,7 @@ cover-with_room w h =
     cond_both (nat_lt (length w.pending) 64) w (oldest_out w.pending w) AllCover (λ e. h)
     (λ e. cover-oldest_out w w.pending h.pending h)
 
-cover-put : (l : Loc) (e : Entry) (o : Option Scalar) (w : Walk) → AllCover w → AllCover (put l e o w)
+cover-put : (l : Loc) (e : Entry) (o : Option Scalar) (w : Walk) → AllCover w → AllCover (put_pending l e o w)
 cover-put l e None w h = cover-stored e (with_room w) (cover-with_room w h)
 cover-put l e (Some v) w h =
     record {

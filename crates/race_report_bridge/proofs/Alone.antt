@@ -10,7 +10,7 @@ use Rattle.upc_values.specs.declared.journal.Entry.{Entry}
 use Rattle.upc_values.specs.declared.journal.Journal.{Journal}
 use Rattle.upc_values.specs.Operations.{Operation, Cell, accesses}
 use Rattle.upc_values.specs.Orders.{record_of, operations_at, placed}
-use Rattle.upc_values.specs.Drain.{Commit, commit_of, Walk, start, emptied, oldest_out, with_room, passed, pending_value, put, looked_up, stepped, walked_from, drained, entry_of}
+use Rattle.upc_values.specs.Drain.{Commit, commit_of, Walk, start, emptied, oldest_out, with_room, passed, pending_value, put_pending, looked_up, stepped, walked_from, drained, entry_of}
 use Rattle.upc_values.specs.Consistent.{FollowsBuffers}
 use Rattle.upc_values.specs.Lists.{Each, Has}
 use Rattle.upc_values.proofs.Membership.{has-filter, each-has, each-append, each-weaker, each-front, each-back}
@@ -43,7 +43,7 @@ alone-with_room w p h =
     cond_both (nat_lt (length w.pending) 64) w (oldest_out w.pending w) (λ z. Each Alone z.emitted) (λ e. h)
     (λ e. alone-oldest_out w w.pending p h)
 
-alone-put : (l : Loc) (e : Entry) (o : Option Scalar) (w : Walk) → Each IsPending w.pending → Each Alone w.emitted → Each Alone (put l e o w).emitted
+alone-put : (l : Loc) (e : Entry) (o : Option Scalar) (w : Walk) → Each IsPending w.pending → Each Alone w.emitted → Each Alone (put_pending l e o w).emitted
 alone-put l e None w p h = alone-with_room w p h
 alone-put l e (Some v) w p h = h
 

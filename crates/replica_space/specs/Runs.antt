@@ -7,7 +7,7 @@ use Rattle.upc_values.specs.declared.action.Action.TheVariants as act
 use Rattle.upc_values.specs.declared.action.Reply.{Reply}
 use Rattle.upc_values.specs.Drain.{entries_of, or_else}
 use Rattle.upc_values.specs.Openings.{Opening, initial_of}
-use Rattle.upc_values.specs.History.{objects, reply, valued}
+use Rattle.upc_values.specs.History.{objects, reply, value_reply}
 use Rattle.replica_space.specs.declared.message.Message.{Message}
 use Rattle.replica_space.specs.declared.event.Event.{Event}
 use Rattle.replica_space.specs.declared.event.Deed.{Deed}
@@ -27,7 +27,7 @@ seen o es t l = or_else (value_in ((space_after o.threads es).copy t l)) (initia
 -- The one lawful reply of the action by thread t after these events, or none: that of a read is what the thread reads,
 -- and every other one is that of the history in them.
 abbrev pub replica_reply : Opening → List Event → ℕ → Action → Option Reply
-replica_reply o es t (act.Read l s) = valued (seen o es t l)
+replica_reply o es t (act.Read l s) = value_reply (seen o es t l)
 replica_reply o es t a = reply o (history_in es) t a
 
 -- No message waits for any of the first n threads from any of them.

@@ -7,7 +7,7 @@ use Rattle.upc_values.specs.declared.action.Reply.TheVariants.{Value}
 use Rattle.upc_values.specs.declared.journal.Entry.{Entry}
 use Rattle.upc_values.specs.Drain.{entry_of, or_else}
 use Rattle.upc_values.specs.Openings.{Opening, IsOpening, initial_of}
-use Rattle.upc_values.specs.History.{objects, held, valued, reply, IsLegal}
+use Rattle.upc_values.specs.History.{objects, held, value_reply, reply, IsLegal}
 use Rattle.upc_values.specs.Formed.{is_known, IsWellFormed, AreWellFormed, fits_after}
 use Rattle.upc_values.proofs.Known.{written-known, lawful-known}
 use Rattle.upc_values.proofs.Sameness.{same_loc-true}
@@ -52,7 +52,7 @@ module _ (o : Opening) (h : List Entry) (l : Loc) (s : Bool) (opening : IsOpenin
       let a = act.Read l s in
       let x : Entry = entry_of 0 0 a (Value v) in
       let asks : IsWellFormed o (loud h) a = formed-loud o h a ∙ w in
-      let lawful : reply o (loud h) 0 a ≡ Some (Value v) = ap valued (sym e) in
+      let lawful : reply o (loud h) 0 a ≡ Some (Value v) = ap value_reply (sym e) in
       let known : is_known o (loud h ++ x ∷ []) v ≡ true = lawful-known o (loud h) 0 0 a (Value v) opening legal formed asks lawful in
       record {
         fits = sym (fits-loud o h a (Value v)) ∙ read-fits o (loud h) 0 l s (Value v) opening legal formed asks lawful;
@@ -73,14 +73,14 @@ read-reply : (o : Opening) (t : ℕ) (l : Loc) (s : Bool) (es : List Event) (d :
     → replica_reply o ready t (act.Read l s) ≡ Some (Value v)
 read-reply o t l s es d ready found v y lt e seen =
     let began = initial_of o (objects o (history_in ready)) l in
-    ap (λ m. valued (or_else (value_in m) began)) (sym (e ∙ ready-copy o s t es d ready t l y lt)) ∙ go found seen
+    ap (λ m. value_reply (or_else (value_in m) began)) (sym (e ∙ ready-copy o s t es d ready t l y lt)) ∙ go found seen
   where
     go : (found : Option Message) → SeenBy o (history_in es) l found v
-        → valued (or_else (value_in found) (initial_of o (objects o (history_in ready)) l)) ≡ Some (Value v)
+        → value_reply (or_else (value_in found) (initial_of o (objects o (history_in ready)) l)) ≡ Some (Value v)
     go (Some m) q = ap (λ u. Some (Value u)) (sym q)
     go None q =
-        ap (λ h. valued (initial_of o (objects o h) l)) (ready-history o s t es d ready y)
-        ∙ ap valued (sym (held-loud o (history_in es) l)) ∙ sym (ap valued q)
+        ap (λ h. value_reply (initial_of o (objects o h) l)) (ready-history o s t es d ready y)
+        ∙ ap value_reply (sym (held-loud o (history_in es) l)) ∙ sym (ap value_reply q)
 
 -- the value may be read
 read-value : (w : Opening × List Entry) (t : ℕ) (l : Loc) (s : Bool) (es : List Event) (d : CopiesState) (ready : List Event) (found : Option Message) (v : Scalar)

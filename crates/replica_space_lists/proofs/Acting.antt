@@ -12,7 +12,7 @@ use Rattle.upc_values.specs.Scalars.{zero, value_or}
 use Rattle.upc_values.specs.Drain.{or_else}
 use Rattle.upc_values.specs.Lists.{Has}
 use Rattle.upc_values.specs.Openings.{Opening, initial_of}
-use Rattle.upc_values.specs.History.{objects, valued}
+use Rattle.upc_values.specs.History.{objects, value_reply}
 use Rattle.upc_values.specs.Operations.{Access, Nothing, Reads, Writes, Writes_sync, Reads_sync, Writes_and_reads_sync, access, Operation, Cell, Sync, read_at, write_at, operations_by, accesses_of}
 use Rattle.upc_values.specs.Consistent.{same_place, last_write, ReadsLastFrom, begins}
 use Rattle.upc_values.proofs.Beginnings.{initial-stays}
@@ -159,7 +159,7 @@ told-value (Some m) = refl
 told-value None = refl
 
 -- what a thread sees is its copy's value, or what the location begins with
-seen-is : (o : Opening) (before rest : List Entry) (l : Loc) (r : Reply) (c i : Option Scalar) → initial_of o (objects o before) l ≡ i → valued (or_else c i) ≡ Some r
+seen-is : (o : Opening) (before rest : List Entry) (l : Loc) (r : Reply) (c i : Option Scalar) → initial_of o (objects o before) l ≡ i → value_reply (or_else c i) ≡ Some r
     → r ≡ Value (value_or c (begins o (before ++ rest) l))
 seen-is o before rest l r (Some v) i e f =
     let k : Value v ≡ r = cc in
@@ -256,7 +256,7 @@ module _ (n : ℕ) (initial : Loc → Scalar) (ops : List Operation) (next then 
 
   -- an action
   module _ (o : Opening) (before : List Event) (rest : List Entry) (begun : initial ≡ begins o (history_in before ++ rest)) where
-    value-of : (l : Loc) (r : Reply) → valued (or_else (value_in (x.space.copy v l)) (initial_of o (objects o (history_in before)) l)) ≡ Some r
+    value-of : (l : Loc) (r : Reply) → value_reply (or_else (value_in (x.space.copy v l)) (initial_of o (objects o (history_in before)) l)) ≡ Some r
         → r ≡ Value (value_or (value_in (x.space.copy v l)) (initial l))
     value-of l r e =
         seen-is o (history_in before) rest l r (value_in (x.space.copy v l)) (initial_of o (objects o (history_in before)) l) refl e
@@ -264,7 +264,7 @@ module _ (n : ℕ) (initial : Loc → Scalar) (ops : List Operation) (next then 
 
     -- what the action is answered
     abbrev pub Answered : Action → Reply → Type 0
-    Answered (act.Read l s) r = valued (or_else (value_in (x.space.copy v l)) (initial_of o (objects o (history_in before)) l)) ≡ Some r
+    Answered (act.Read l s) r = value_reply (or_else (value_in (x.space.copy v l)) (initial_of o (objects o (history_in before)) l)) ≡ Some r
     Answered (act.Write s l w) r = r ≡ Done
     Answered a r = Unit {0}
 

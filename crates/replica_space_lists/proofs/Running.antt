@@ -11,7 +11,7 @@ use Rattle.upc_values.specs.declared.action.Reply.{Reply}
 use Rattle.upc_values.specs.declared.journal.Entry.{Entry}
 use Rattle.upc_values.specs.Drain.{entries_of, entry_of, or_else}
 use Rattle.upc_values.specs.Openings.{Opening, initial_of}
-use Rattle.upc_values.specs.History.{objects, valued}
+use Rattle.upc_values.specs.History.{objects, value_reply}
 use Rattle.upc_values.specs.Operations.{accesses}
 use Rattle.upc_values.specs.Consistent.{begins}
 use Rattle.replica_space.specs.declared.event.Event.{Event}
@@ -104,7 +104,7 @@ module _ (o : Opening) (before : List Event) (rest : List Entry) (initial : Loc 
       → replica_reply o before v a ≡ Some r
       → Answered n initial (flat_map accesses hist) next then x h grows v lv more i q o before rest begin a r
   answered v i lv (act.Read l s) r then grows more q e =
-      ap (λ (z : Space). valued (or_else (value_in (z.copy v l)) (initial_of o (objects o hist) l))) (space-is n before) ∙ e
+      ap (λ (z : Space). value_reply (or_else (value_in (z.copy v l)) (initial_of o (objects o hist) l))) (space-is n before) ∙ e
   answered v i lv (act.Write s l w) r then grows more q e = cc
   answered v i lv a r then grows more q e = tt
 

@@ -11,7 +11,7 @@ use Rattle.upc_values.specs.declared.journal.Entry.{Entry}
 use Rattle.upc_values.specs.Lists.{Each, Has, Precedes}
 use Rattle.upc_values.specs.Drain.{entry_of, or_else, written, last_written}
 use Rattle.upc_values.specs.Openings.{Opening, initial_of}
-use Rattle.upc_values.specs.History.{objects, valued, held, IsLegal}
+use Rattle.upc_values.specs.History.{objects, value_reply, held, IsLegal}
 use Rattle.upc_values.proofs.Beginnings.{initial-stays}
 use Rattle.upc_values.proofs.Legality.{legal-get}
 use Rattle.upc_values.proofs.Lists.{each-at}
@@ -102,13 +102,13 @@ begins-held : (o : Opening) (front : List Entry) (l : Loc) → BeginsWith0 o l �
 begins-held o front l h =
     initial-stays o [] front l (Int (pos 0)) (ap (λ z. initial_of o z l) (append-nil o.declared) ∙ h)
 
-value-held : (o : Opening) (front : List Entry) (l : Loc) (v : Scalar) → BeginsWith0 o l → valued (held o front l) ≡ Some (Value v)
+value-held : (o : Opening) (front : List Entry) (l : Loc) (v : Scalar) → BeginsWith0 o l → value_reply (held o front l) ≡ Some (Value v)
     → or_else (last_written l front) (Some (Int (pos 0))) ≡ Some v
 value-held o front l v b h =
     inner (or_else (last_written l front) (Some (Int (pos 0))))
-    (ap (λ z. valued (or_else (last_written l front) z)) (sym (begins-held o front l b)) ∙ h)
+    (ap (λ z. value_reply (or_else (last_written l front) z)) (sym (begins-held o front l b)) ∙ h)
   where
-    inner : (c : Option Scalar) → valued c ≡ Some (Value v) → c ≡ Some v
+    inner : (c : Option Scalar) → value_reply c ≡ Some (Value v) → c ≡ Some v
     inner (Some u) k = cc
     inner None k = absurd cc
 

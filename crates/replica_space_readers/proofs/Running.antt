@@ -10,7 +10,7 @@ use Rattle.upc_values.specs.declared.scalar.Scalar.{Scalar}
 use Rattle.upc_values.specs.declared.scalar.Scalar.TheVariants.{Int}
 use Rattle.upc_values.specs.declared.action.Reply.TheVariants.{Value}
 use Rattle.upc_values.specs.Openings.{Opening, IsDeclared, initial_of}
-use Rattle.upc_values.specs.History.{valued}
+use Rattle.upc_values.specs.History.{value_reply}
 use Rattle.replica_space.specs.Runs.{IsReplicaRun}
 use Rattle.replica_space.specs.layer.ReplicaRows.{x, y, two_readers}
 use Rattle.replica_space_readers.specs.code.Readers.{BeginsWith0, readers_after_start, four_threads, SomeOpening}
@@ -37,8 +37,8 @@ module _ (declared : List ObjectRef) (initials : List (Loc × Scalar)) (shapes :
   o = record { threads = 4; declared = declared; initials = initials; shapes = shapes }
 
   -- where no object is made, a location that no message has reached has what it began with
-  untouched : (l : Loc) → BeginsWith0 o l → valued (initial_of o (declared ++ []) l) ≡ Some (Value (Int (pos 0)))
-  untouched l h = ap (λ z. valued (initial_of o z l)) (append-nil declared) ∙ ap valued h
+  untouched : (l : Loc) → BeginsWith0 o l → value_reply (initial_of o (declared ++ []) l) ≡ Some (Value (Int (pos 0)))
+  untouched l h = ap (λ z. value_reply (initial_of o z l)) (append-nil declared) ∙ ap value_reply h
 
   two_readers-from : BeginsWith0 o x → BeginsWith0 o y → IsReplicaRun o two_readers
   two_readers-from bx by =

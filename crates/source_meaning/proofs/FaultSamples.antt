@@ -23,7 +23,7 @@ use Rattle.typed_tree.specs.Tree.{Statement, Stands, Synchronise}
 use Rattle.typed_tree.specs.Programs.{Checked}
 use Rattle.thread_steps.specs.States.{Over}
 use Rattle.thread_steps.specs.Actions.{ask, notify, wait, meet}
-use Rattle.thread_steps.specs.Accesses.{load, save, run}
+use Rattle.thread_steps.specs.Accesses.{load, save, library_steps}
 use Rattle.thread_steps.specs.Pointers.{advance}
 use Rattle.thread_steps.specs.Operators.{cast}
 use Rattle.thread_steps.specs.Blocks.{open_block, local_object, begin_call}
@@ -124,25 +124,25 @@ lock_faults a code = outcome (begins ++ act.Meet 2 [] ∷ a ∷ []) 0 (told.Faul
 locks-again :
     thread_outcome (with_lock call.Lock) 0 100 (lock_replies (Refused 13)) ≡ lock_faults (act.Lock 1) 13
 unfolding thread_outcome most_calls ask notify wait begin_call open_block
-    local_object cast load save library run meet
+    local_object cast load save library library_steps meet
 locks-again = refl
 
 unlocks-not-held :
     thread_outcome (with_lock call.Unlock) 0 100 (lock_replies (Refused 14)) ≡ lock_faults (act.Unlock 1) 14
 unfolding thread_outcome most_calls ask notify wait begin_call open_block
-    local_object cast load save library run meet
+    local_object cast load save library library_steps meet
 unlocks-not-held = refl
 
 attempts-freed :
     thread_outcome (with_lock call.LockAttempt) 0 100 (lock_replies (Refused 15)) ≡ lock_faults (act.Attempt 1) 15
 unfolding thread_outcome most_calls ask notify wait begin_call open_block
-    local_object cast load save library run meet
+    local_object cast load save library library_steps meet
 attempts-freed = refl
 
 frees-freed :
     thread_outcome (with_lock call.LockFree) 0 100 (lock_replies (Refused 15)) ≡ lock_faults (act.LockFree 1) 15
 unfolding thread_outcome most_calls ask notify wait begin_call open_block
-    local_object cast load save library run meet
+    local_object cast load save library library_steps meet
 frees-freed = refl
 
 -- Another thread's first collective call was another one.
@@ -150,7 +150,7 @@ meets-another :
     thread_outcome (with_lock call.Lock) 0 100 (done 2 ++ Refused 17 ∷ [])
     ≡ outcome (begins ++ act.Meet 2 [] ∷ []) 0 (told.Fault 17 here)
 unfolding thread_outcome most_calls ask notify wait begin_call open_block
-    local_object cast load save library run meet
+    local_object cast load save library library_steps meet
 meets-another = refl
 
 -- ---- allocations
@@ -179,20 +179,20 @@ frees-badly :
     thread_outcome (frees (pos 8)) 0 100 (done 2 ++ Value (scalar.Shared made) ∷ Refused 16 ∷ [])
     ≡ outcome (begins ++ act.Alloc 1 8 (Some 0) 0 ∷ act.Free made ∷ []) 0 (told.Fault 16 here)
 unfolding thread_outcome most_calls ask notify wait begin_call open_block
-    local_object cast load save library run
+    local_object cast load save library library_steps
 frees-badly = refl
 
 -- Six bytes are no whole number of ints.
 allocates-in-part : thread_outcome (frees (pos 6)) 0 100 (done 4) ≡ outcome begins 0 (told.Fault 18 here)
 unfolding thread_outcome most_calls ask notify wait begin_call open_block
-    local_object cast load save library run
+    local_object cast load save library library_steps
 allocates-in-part = refl
 
 allocates-too-much :
     thread_outcome (frees (pos 8)) 0 100 (done 2 ++ Refused 21 ∷ [])
     ≡ outcome (begins ++ act.Alloc 1 8 (Some 0) 0 ∷ []) 0 (told.Fault 21 here)
 unfolding thread_outcome most_calls ask notify wait begin_call open_block
-    local_object cast load save library run
+    local_object cast load save library library_steps
 allocates-too-much = refl
 
 -- `int main(void){return upc_affinitysize(8, 8, 1);}` on one thread: there is no thread 1.
@@ -205,5 +205,5 @@ elsewhere =
     ∷ [])
 
 elsewhere-faults : thread_outcome elsewhere 0 100 (done 4) ≡ outcome begins 0 (told.Fault 22 here)
-unfolding thread_outcome most_calls ask notify wait begin_call open_block cast library run
+unfolding thread_outcome most_calls ask notify wait begin_call open_block cast library library_steps
 elsewhere-faults = refl

@@ -26,7 +26,7 @@ use Rattle.typed_tree.specs.Tree as t
 use Rattle.typed_tree.specs.Tree.{Expr, Is, attr_of}
 use Rattle.typed_tree.specs.Programs.{Checked}
 use Rattle.thread_steps.specs.Actions.{ask, tick, notify, wait, meet, fence, exit}
-use Rattle.thread_steps.specs.Accesses.{load, save, run}
+use Rattle.thread_steps.specs.Accesses.{load, save, library_steps}
 use Rattle.thread_steps.specs.Pointers.{advance, member, difference}
 use Rattle.thread_steps.specs.Operators.{operate, cast}
 use Rattle.thread_steps.specs.Blocks.{open_block, close_block, local_object, begin_call, end_call, control, mine}
@@ -168,7 +168,7 @@ abbrev locks_null : Checked
 locks_null = program 1 [] (main (block [] (does (call_library Lock void (exprs (num (pos 0) ∷ []))) ∷ [])) ∷ [])
 
 null-lock-faults : thread_outcome locks_null 0 100 (done 4) ≡ outcome begins 0 (told.Fault 4 here)
-unfolding thread_outcome most_calls ask notify wait begin_call open_block cast library run
+unfolding thread_outcome most_calls ask notify wait begin_call open_block cast library library_steps
 null-lock-faults = refl
 
 -- `int main(void){shared [] int *p = upc_alloc(8); return upc_threadof(p);}` on two threads, thread 1
@@ -195,7 +195,7 @@ allocates-on-its-thread :
     thread_outcome allocates 1 100 (done 2 ++ Value (scalar.Shared made) ∷ done 2)
     ≡ outcome (begins ++ act.Alloc 1 8 (Some 1) 0 ∷ ends) 0 (told.Ended (pos 1))
 unfolding thread_outcome most_calls ask notify wait begin_call end_call open_block close_block
-    local_object cast load save library run
+    local_object cast load save library library_steps
 allocates-on-its-thread = refl
 
 -- `int main(void){shared [] int *p = upc_all_alloc(1, 8); return upc_threadof(p);}` on two threads: all threads meet
@@ -220,7 +220,7 @@ allocates-by-meeting :
     thread_outcome meets_for_ints 1 100 (done 2 ++ Value (scalar.Shared met) ∷ done 2)
     ≡ outcome (begins ++ act.Meet 1 (Int (pos 1) ∷ Int (pos 8) ∷ Int (pos 0) ∷ []) ∷ ends) 0 (told.Ended (pos 0))
 unfolding thread_outcome most_calls ask notify wait begin_call end_call open_block close_block
-    local_object cast load save library run meet
+    local_object cast load save library library_steps meet
 allocates-by-meeting = refl
 
 -- `int main(void){int i; upc_forall (i = 0; i < 1; i++; 0) upc_all_lock_alloc(); return 0;}`: a collective call in a
@@ -279,7 +279,7 @@ reduces-one :
     ++ act.Read (at_object 1 0) false ∷ act.Write false (at_object 2 0) (Int (pos 7)) ∷ all_at_once ++ ends) 0
     (told.Ended (pos 0))
 unfolding thread_outcome most_calls ask notify wait begin_call end_call open_block close_block
-    cast library run meet
+    cast library library_steps meet
 reduces-one = refl
 
 -- ---- members

@@ -14,7 +14,7 @@ use Rattle.upc_values.specs.declared.library.LibraryCall.{LibraryCall}
 use Rattle.upc_values.specs.declared.library.LibraryCall.TheVariants.{Printf}
 use Rattle.upc_types.specs.Types.{CType, Array, base_of}
 use Rattle.upc_types.specs.Cells.{leaves}
-use Rattle.upc_types.specs.Arithmetic.{promoted}
+use Rattle.integers.specs.Integers.{promoted}
 use Rattle.typing_rules.specs.declared.setting.Home.{Home}
 use Rattle.typing_rules.specs.declared.setting.Home.TheVariants as home
 use Rattle.typing_rules.specs.declared.attribute.Form.TheVariants.{Lvalue}

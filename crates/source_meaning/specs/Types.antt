@@ -10,7 +10,7 @@ use Rattle.upc_types.specs.Same.{same_block, is_lock_object}
 use Rattle.upc_types.specs.Layout as layout
 use Rattle.upc_types.specs.Layout.{base_within}
 use Rattle.upc_types.specs.Cells.{leaf_base, object_shape}
-use Rattle.upc_types.specs.Arithmetic.{promoted}
+use Rattle.integers.specs.Integers.{promoted}
 use Rattle.typing_rules.specs.declared.library.LibraryParameter.{LibraryParameter}
 use Rattle.typing_rules.specs.declared.library.LibraryParameter.TheVariants.{SharedPointer, PrivatePointer}
 use Rattle.typing_rules.specs.declared.library.LibraryParameter.TheVariants.{LockPointer, Size}

@@ -81,7 +81,7 @@ module _ (o : Opening) (past : List Reply) (v : IsGround o) (R : Kind → Loc �
   unless_goes b code y g = m.unless_goes o past v R me budget (λ w. is_known o past w ≡ true) b code y g
 
   -- A call that gives no value gives 0.
-  valued_goes : (e : Expansion (Unit {0})) → p.GoesWell o past v R me budget Nothing e → Goes (l.valued e)
+  valued_goes : (e : Expansion (Unit {0})) → p.GoesWell o past v R me budget Nothing e → Goes (l.gives_zero e)
   valued_goes e h =
       m.bind_goes o past v R me budget Nothing (λ w. is_known o past w ≡ true) e (λ u. Gives zero) h (λ u k. refl)
 
@@ -239,7 +239,7 @@ module _ (o : Opening) (past : List Reply) (v : IsGround o) (R : Kind → Loc �
   area_known w h = m.area_known o past v R me budget w h
 
   copy_goes : (part : Option Shape) (dst src : Value) (n : ℕ) → Known o past dst → Known o past src
-      → Goes (l.valued (copy o.threads o.shapes part (l.area_of dst) (l.area_of src) n))
+      → Goes (l.gives_zero (copy o.threads o.shapes part (l.area_of dst) (l.area_of src) n))
   copy_goes part dst src n h g =
       valued_goes (copy o.threads o.shapes part (l.area_of dst) (l.area_of src) n)
       (m.copy_goes o past v R me budget part (l.area_of dst) (l.area_of src) n (area_known dst h) (area_known src g))

@@ -15,7 +15,7 @@ use Rattle.block_layout.specs.Places.{in_range, thread_at}
 use Rattle.block_layout.specs.Pointers.{is_null, same_object, location}
 use Rattle.block_layout.specs.Shapes.{kind_size}
 use Rattle.block_layout.proofs.Numbers.{floor_mod-below}
-use Rattle.integers.specs.Integers.{in_kind}
+use Rattle.integers.specs.Integers.{in_kind, promoted}
 use Rattle.upc_values.specs.declared.scalar.Scalar.{Scalar}
 use Rattle.upc_values.specs.layer.Parts.{copies, is_kind, back_to}
 use Rattle.upc_values.specs.layer.Parts as parts
@@ -33,7 +33,7 @@ use Rattle.upc_values.specs.Calls.{Reduces_prefixes, Other, Way, Broadcast, Scat
 use Rattle.upc_values.specs.Calls.{is_size, is_int, way_of, call_of}
 use Rattle.upc_values.specs.Expansion.{Expansion, Gives, nothing, bind, does, barrier, each_in_turn, gathered}
 use Rattle.upc_values.specs.Expansion.{refused_by}
-use Rattle.upc_values.specs.Reductions.{Reduction, reduction, step, reduced, promoted, element_kind}
+use Rattle.upc_values.specs.Reductions.{Reduction, reduction, step, reduced, element_kind}
 use Rattle.upc_values.specs.Views.{from_phase_0, with_block, element, byte_at, leaves_range, leaves_piece}
 use Rattle.block_layout.specs.Cells.{same_cells}
 use Rattle.upc_values.specs.Views.{shape_at, is_cell, destination, source}

@@ -34,7 +34,7 @@ use Rattle.upc_values.specs.Formed.{is_pointer}
 use Rattle.upc_values.specs.Expansion.{Expansion, Gives, Fails, Reads, Asks as Acts, Loads, Stores, value_in}
 use Rattle.upc_values.specs.LibraryCalls.{library_call, meet_number}
 use Rattle.upc_values.specs.Printing.{printed}
-use Rattle.private_store.specs.Live.{Live, entered, left, called, returned, controls}
+use Rattle.private_store.specs.Live.{Live, entered, left, call_begun, returned, controls}
 use Rattle.private_store.specs.Cells.{loaded, stored}
 use Rattle.thread_steps.specs.declared.cast.CastTo.{CastTo}
 use Rattle.thread_steps.specs.layer.Parts as parts
@@ -423,7 +423,7 @@ module _ (op : Opening) (past : List Reply) (v : IsGround op) (R : Kind → Loc 
   begin_asks P at =
       on (Unit {0}) P Nothing (fault_if parts.is_deep DEPTH at) _
       (fault_if_asks op past R P parts.is_deep DEPTH at (λ σ r rs. refl)) (λ Q f.
-      live_asks Q called (λ live h. h))
+      live_asks Q call_begun (λ live h. h))
 
   pub end_asks : (P : Type 0) → Asks op past R (Unit {0}) P Nothing b.end_call
   unfolding b.end_call
@@ -472,8 +472,8 @@ module _ (op : Opening) (past : List Reply) (v : IsGround op) (R : Kind → Loc 
       expanded_asks (P × Unit {0}) V at after (λ q. (h q.0).1) g)
 
   run_asks : {A : Type 0} (P : Type 0) (V : A → Type 0) (at : Place) (e : Expansion A) → (P → GoesWell V e)
-      → ((k : Kind) (l : Loc) → ReadsCell e k l → R k l) → Asks op past R A P V (x.run τ at e)
-  unfolding x.run
+      → ((k : Kind) (l : Loc) → ReadsCell e k l → R k l) → Asks op past R A P V (x.library_steps τ at e)
+  unfolding x.library_steps
   run_asks P V at e h g = expanded_asks P V at e h g
 
   -- A call goes well whatever private objects live.
@@ -490,7 +490,7 @@ module _ (op : Opening) (past : List Reply) (v : IsGround op) (R : Kind → Loc 
   module _ (call : LibraryCall) (shape : ℕ) (at : Place) (args : List Value)
       (reads : (k : Kind) (l : Loc) → CallReads call shape args k l → R k l) where
     called_asks : (P : Type 0) → (P → CallGoesWell call shape args)
-        → Asks op past R Value P IsKnown (l.called τ call shape at args)
+        → Asks op past R Value P IsKnown (l.called_library τ call shape at args)
     called_asks P h =
         on Value P IsKnown (choose (is_some (meet_number call)) (a.meet τ at) skip) _
         (choose_asks op past R (Unit {0}) P Nothing (is_some (meet_number call)) (a.meet τ at) skip (meet_asks P at)
@@ -499,14 +499,14 @@ module _ (op : Opening) (past : List Reply) (v : IsGround op) (R : Kind → Loc 
         (know_asks op past R (ℕ → Option Shape) Q (λ y. Unit {0}) parts.private_shapes (λ q σ g. tt) (λ σ r rs. refl))
         (λ private.
         then_asks op past R Scalar Value (Q × Unit {0}) IsKnownScalar IsKnown
-        (x.run τ at (library_call op.threads op.shapes me private call shape args)) _
+        (x.library_steps τ at (library_call op.threads op.shapes me private call shape args)) _
         (run_asks (Q × Unit {0}) IsKnownScalar at (library_call op.threads op.shapes me private call shape args)
         (λ q. h (f q.0) private) (λ k l r. reads k l (private, r))) (λ w.
         give_asks op past R Value ((Q × Unit {0}) × IsKnownScalar w) IsKnown (value.Scalar w) (λ q. q.1))))
 
     formed_asks : (P : Type 0) → (P → l.is_formed op.shapes call shape args ≡ true → CallGoesWell call shape args)
         → (b : Bool) → l.is_formed op.shapes call shape args ≡ b
-        → Asks op past R Value P IsKnown (choose b (l.called τ call shape at args) (give (number (pos 0))))
+        → Asks op past R Value P IsKnown (choose b (l.called_library τ call shape at args) (give (number (pos 0))))
     formed_asks P h true e = called_asks P (λ q. h q e)
     formed_asks P h false e = give_asks op past R Value P IsKnown (number (pos 0)) (λ q. refl)
 

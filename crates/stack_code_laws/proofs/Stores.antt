@@ -21,7 +21,7 @@ use Rattle.private_store.specs.declared.frame.Block.{Block}
 use Rattle.private_store.specs.declared.frame.Call.{Call}
 use Rattle.private_store.specs.Live.{Live, Thing, thing, blank_things, entered, left_from, left, open_blocks, youngest}
 use Rattle.private_store.specs.Live.{returned_from, returned, recounted_from, recounted}
-use Rattle.private_store.specs.Cells.{Cell, lies_within, cell_place, cell_there, cell_in, reached, value_in, loaded}
+use Rattle.private_store.specs.Cells.{Cell, lies_within, cell_place, cell_there, cell_in, reached, cell_value, loaded}
 use Rattle.private_store.specs.Cells.{changed}
 use Rattle.private_store.specs.Cells.{put_in, stored}
 use Rattle.private_store.specs.Beginnings.{fits_cell, private_cell, if_stored, begun_cell, blank, begun}
@@ -151,7 +151,7 @@ module _ (o : Opening) (past : List Reply) where
   IsRead k (Ok v) = IsCellValue k v
   IsRead k (Err code) = Unit {0}
 
-  read_is : (k : Kind) (r : Result Cell ℕ) → CellIn k r → IsRead k (value_in k r)
+  read_is : (k : Kind) (r : Result Cell ℕ) → CellIn k r → IsRead k (cell_value k r)
   read_is k (Ok c) h = got c.object.shape.cells c.object.values c.place k h.1 h.0
   read_is k (Err code) h = tt
 

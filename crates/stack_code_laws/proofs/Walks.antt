@@ -9,7 +9,7 @@ use Rattle.upc_values.specs.declared.scalar.Mark.TheVariants.{Given}
 use Rattle.upc_values.specs.declared.record.ToldEnd.{ToldEnd}
 use Rattle.upc_values.specs.declared.record.ToldEnd.TheVariants as told
 use Rattle.block_layout.specs.declared.run_error.TheConstants.{DEPTH}
-use Rattle.private_store.specs.Live.{Live, called, returned}
+use Rattle.private_store.specs.Live.{Live, call_begun, returned}
 use Rattle.thread_steps.specs.States.{Thread, State, Res, Val, Over, Unfinished, Doing, ◌>>=◌, choose}
 use Rattle.thread_steps.specs.layer.Parts.{is_deep, outside}
 use Rattle.thread_steps.specs.States.{skip, fault, change}
@@ -267,9 +267,9 @@ module _ (Good : ℕ → State → Type 0) (Fine : ToldEnd → State → Type 0)
 
       module _ (t : ℕ) (go : State → Conf) (goes : (υ : State) → Good t υ → To (go υ)) where
         begun_by : (deep : Bool) (at : Place) (σ : State) → Good t σ
-            → To (conf_of ((choose deep (fault DEPTH at) skip >>= (λ _. change (with_live called))) σ) (λ _. go))
+            → To (conf_of ((choose deep (fault DEPTH at) skip >>= (λ _. change (with_live call_begun))) σ) (λ _. go))
         begun_by true at σ g = rule.faults DEPTH at t σ g
-        begun_by false at σ g = goes (with_live called σ) (rule.live called t σ g)
+        begun_by false at σ g = goes (with_live call_begun σ) (rule.live call_begun t σ g)
 
       begun_goes : (t f : ℕ) (at : Place) (vs operands : List Value) (left : List Spot)
           → Goes i here calls s t (record { function = f; place = 0 }) left → (σ : State) → Good t σ

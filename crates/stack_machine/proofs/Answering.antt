@@ -16,7 +16,7 @@ use Rattle.upc_values.specs.Formed.{fits}
 use Rattle.upc_values.specs.Scalars.{zero}
 use Rattle.upc_values.specs.Copying as said
 use Rattle.upc_values.specs.Expansion.{Expansion, Gives, Fails, Reads, Asks, Loads, Stores, after_reply}
-use Rattle.upc_values.specs.LibraryCalls.{valued}
+use Rattle.upc_values.specs.LibraryCalls.{gives_zero}
 use Rattle.private_store.specs.Live.{Live}
 use Rattle.private_store.specs.Cells.{loaded, stored}
 use Rattle.thread_steps.specs.Values.{kept, scalar_of}
@@ -43,23 +43,23 @@ use Rattle.stack_machine.specs.code.Walking.{IsInside, IsHalted, IsRefusal, IfGo
 
 module _ (codes : Codes) (thread budget : ℕ) (given : List Reply) (at : Place) (b : Body) where
   abbrev Inside : Expansion (Unit {0}) → Live → List Reply → Type 0
-  Inside x store left = StandsInside codes thread budget given left at (valued x) (record b { store = store })
+  Inside x store left = StandsInside codes thread budget given left at (gives_zero x) (record b { store = store })
 
   pub act_goes : (x : Expansion (Unit {0})) (a : Action) (r : Reply) (store : Live) (left : List Reply)
       → IsWish x (Act a) → fits codes.threads codes.shapes (kind_read x) a r ≡ true
       → Inside x store (r ∷ left) → Inside (after_reply x r) store left
   act_goes (Reads l k go) a r store left e f s =
-      (goes_inside codes thread budget).reads given left r at l k (λ v. valued (go v)) (record b { store = store }) s
+      (goes_inside codes thread budget).reads given left r at l k (λ v. gives_zero (go v)) (record b { store = store }) s
       (subst (λ c. fits codes.threads codes.shapes (Some k) c r ≡ true) e f)
   act_goes (Asks c go) a r store left e f s =
-      (goes_inside codes thread budget).asks given left r at c (λ r. valued (go r)) (record b { store = store }) s
+      (goes_inside codes thread budget).asks given left r at c (λ r. gives_zero (go r)) (record b { store = store }) s
       (subst (λ c. fits codes.threads codes.shapes None c r ≡ true) e f)
   act_goes (Gives v) a r store left e f s = absurd e
   act_goes (Fails c) a r store left e f s = absurd e
   act_goes (Loads p k go) a r store left e f s = absurd e
   act_goes (Stores p k v go) a r store left e f s = absurd e
 
-  pub act_wants : (x : Expansion (Unit {0})) (a : Action) → IsWish x (Act a) → wanted_in (valued x) ≡ Some a
+  pub act_wants : (x : Expansion (Unit {0})) (a : Action) → IsWish x (Act a) → wanted_in (gives_zero x) ≡ Some a
   act_wants (Reads l k go) a e = ap Some (sym e)
   act_wants (Asks c go) a e = ap Some (sym e)
   act_wants (Gives v) a e = absurd e
@@ -71,7 +71,7 @@ module _ (codes : Codes) (thread budget : ℕ) (given : List Reply) (at : Place)
       → IsWish x (LoadPrivate p k) → loaded p k store ≡ Ok v → Inside x store left
       → Inside (after_reply x (reply.Value (scalar_of v))) store left
   load_goes (Loads q j go) p k v store left e f s =
-      (goes_inside codes thread budget).loads given left at q j (λ v. valued (go v)) (record b { store = store }) v s
+      (goes_inside codes thread budget).loads given left at q j (λ v. gives_zero (go v)) (record b { store = store }) v s
       (subst (λ q. loaded q j store ≡ Ok v) e.0 (subst (λ j. loaded p j store ≡ Ok v) e.1 f))
   load_goes (Reads l k go) p j v store left e f s = absurd e
   load_goes (Asks c go) p k v store left e f s = absurd e
@@ -80,7 +80,7 @@ module _ (codes : Codes) (thread budget : ℕ) (given : List Reply) (at : Place)
   load_goes (Stores q j w go) p k v store left e f s = absurd e
 
   pub load_fails : (x : Expansion (Unit {0})) (p : LocalPtr) (k : Kind) (code : ℕ) (store : Live)
-      → IsWish x (LoadPrivate p k) → loaded p k store ≡ Err code → FailsBy code (valued x) (record b { store = store })
+      → IsWish x (LoadPrivate p k) → loaded p k store ≡ Err code → FailsBy code (gives_zero x) (record b { store = store })
   load_fails (Loads q j go) p k code store e f =
       subst (λ q. loaded q j store ≡ Err code) e.0 (subst (λ j. loaded p j store ≡ Err code) e.1 f)
   load_fails (Reads l k go) p j code store e f = absurd e
@@ -93,7 +93,7 @@ module _ (codes : Codes) (thread budget : ℕ) (given : List Reply) (at : Place)
       (left : List Reply) → IsWish x (StorePrivate p k v) → stored p k (kept k (value.Scalar v)) store ≡ Ok after
       → Inside x store left → Inside (after_reply x reply.Done) after left
   store_goes (Stores q j w go) p k v store after left e f s =
-      (goes_inside codes thread budget).stores given left at q j w (valued go) (record b { store = store }) after s
+      (goes_inside codes thread budget).stores given left at q j w (gives_zero go) (record b { store = store }) after s
       (subst (λ q. stored q j (kept j (value.Scalar w)) store ≡ Ok after) e.0
       (subst (λ j. stored p j (kept j (value.Scalar w)) store ≡ Ok after) e.1
       (subst (λ w. stored p k (kept k (value.Scalar w)) store ≡ Ok after) e.2 f)))
@@ -105,7 +105,7 @@ module _ (codes : Codes) (thread budget : ℕ) (given : List Reply) (at : Place)
 
   pub store_fails : (x : Expansion (Unit {0})) (p : LocalPtr) (k : Kind) (v : Scalar) (code : ℕ) (store : Live)
       → IsWish x (StorePrivate p k v) → stored p k (kept k (value.Scalar v)) store ≡ Err code
-      → FailsBy code (valued x) (record b { store = store })
+      → FailsBy code (gives_zero x) (record b { store = store })
   store_fails (Stores q j w go) p k v code store e f =
       subst (λ q. stored q j (kept j (value.Scalar w)) store ≡ Err code) e.0
       (subst (λ j. stored p j (kept j (value.Scalar w)) store ≡ Err code) e.1
@@ -128,11 +128,11 @@ module _ (codes : Codes) (thread budget : ℕ) (given : List Reply) (at : Place)
 
   -- It fails, and so the thread ends.
   pub fails_so : (x : Expansion (Unit {0})) (code : ℕ) (store : Live) (left : List Reply)
-      → FailsBy code (valued x) (record b { store = store }) → Inside x store left
+      → FailsBy code (gives_zero x) (record b { store = store }) → Inside x store left
       → HasStopped codes thread budget given (told_by (Fault code at)) b.ticks
   fails_so x code store left e s = record {
     by = λ f all later.
-        (goes_inside codes thread budget).fails f given left later at (valued x) code (record b { store = store }) all s e;
+        (goes_inside codes thread budget).fails f given left later at (gives_zero x) code (record b { store = store }) all s e;
   }
 
 -- What is not finished takes replies.

@@ -15,9 +15,9 @@ use Rattle.upc_values.specs.Formed.{fits}
 use Rattle.upc_values.specs.LibraryCalls.{library_call, meet_number, asks, given_by}
 use Rattle.thread_steps.specs.States.{Thread, State, Res, Val, bind, give, choose, skip, valued}
 use Rattle.thread_steps.specs.Actions.{meet, exit, ask, answered}
-use Rattle.thread_steps.specs.Accesses.{run, expanded}
+use Rattle.thread_steps.specs.Accesses.{library_steps, expanded}
 use Rattle.thread_steps.specs.Values.{number}
-use Rattle.thread_steps.specs.Library.{library, called, formed_call, is_formed}
+use Rattle.thread_steps.specs.Library.{library, called_library, formed_call, is_formed}
 use Rattle.thread_steps.specs.layer.Parts.{first_number, private_shapes, answered_from}
 use Rattle.upc_values.specs.Calls.{call_of}
 use Rattle.thread_values.specs.layer.Collectives.{collective_number, scalars_met}
@@ -66,12 +66,12 @@ unmet_by : (τ : Thread) (at : Place) (before : List Action) (p : Progress) (c :
 unfolding library
 unmet_by τ at before p c shape args n e h f came =
     let go : Unit {0} → State → Res Value = λ _ υ.
-    bind (run τ at (library_call τ.threads τ.shapes τ.number (private_shapes υ) c shape args) υ)
+    bind (library_steps τ at (library_call τ.threads τ.shapes τ.number (private_shapes υ) c shape args) υ)
     (λ v. give (value.Scalar v)) in
     subst (λ (r : Res Value). Came before r (Err e) p p)
     (sym (ap (λ b. choose b (exit τ (first_number args)) (formed_call τ c shape at args) (state_seen before p))
     (collective_no_exit c n h)
-    ∙ ap (λ b. choose b (called τ c shape at args) (give (number (pos 0))) (state_seen before p))
+    ∙ ap (λ b. choose b (called_library τ c shape at args) (give (number (pos 0))) (state_seen before p))
     (collective_formed τ.shapes shape args c n h (known_call (call_of n (scalars_met c args)) f))
     ∙ ap (λ b. bind (choose b (meet τ at) skip (state_seen before p)) go) (collective_meets c n h)))
     (bind_err before (meet τ at (state_seen before p)) e p p go came)
@@ -102,7 +102,7 @@ module _ (τ : Thread) (at : Place) (before : List Action) (p : Progress) where
 
     took : (r : Reply) (res : Result Value ℕ) → p.reply ≡ Some r → fits τ.threads τ.shapes None a r ≡ true
         → Some res ≡ given_at_once (given_by r) → expanded_to τ at (asks a) (state_seen before p) ≡ valued at res behind
-    unfolding run ask from fitted
+    unfolding library_steps ask from fitted
     took r res e f g = ap (λ o. from (listed o)) e ∙ ap (λ b. fitted b r) f ∙ gives τ at behind r res g
 
     pub took_ok : (r : Reply) (v : Value) (after : Option Reply) → p.reply ≡ Some r → fits τ.threads τ.shapes None a r ≡ true

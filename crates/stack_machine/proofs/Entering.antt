@@ -9,9 +9,9 @@ use Rattle.upc_values.specs.declared.library.LibraryCall.{LibraryCall}
 use Rattle.upc_values.specs.LibraryCalls.{library_call, meet_number}
 use Rattle.thread_steps.specs.States.{Thread, State, Res, Val, bind, give, choose, skip, fault}
 use Rattle.thread_steps.specs.Actions.{meet, exit, is_controlled}
-use Rattle.thread_steps.specs.Accesses.{run}
+use Rattle.thread_steps.specs.Accesses.{library_steps}
 use Rattle.thread_steps.specs.Values.{number}
-use Rattle.thread_steps.specs.Library.{library, called, formed_call, is_formed}
+use Rattle.thread_steps.specs.Library.{library, called_library, formed_call, is_formed}
 use Rattle.thread_steps.specs.layer.Parts.{first_number, private_shapes, is_exit}
 use Rattle.stack_code.specs.declared.instruction.Instr.{Instr}
 use Rattle.stack_code.specs.layer.Codes.{Codes, thread_of}
@@ -41,13 +41,13 @@ module _ (τ : Thread) (at : Place) (call : LibraryCall) (shape : ℕ) (args : L
       → (is_some (meet_number call) ≡ true → is_controlled σ ≡ false)
       → (is_some (meet_number call) ≡ true → σ.notified ≡ false)
       → library τ call shape at args σ
-      ≡ bind (run τ at (library_call τ.threads τ.shapes τ.number (private_shapes σ) call shape args) σ)
+      ≡ bind (library_steps τ at (library_call τ.threads τ.shapes τ.number (private_shapes σ) call shape args) σ)
       (λ v. give (value.Scalar v))
   unfolding library
   formed σ e f c n =
       ap (λ b. choose b (exit τ (first_number args)) (formed_call τ call shape at args) σ) e
-      ∙ ap (λ b. choose b (called τ call shape at args) (give (number (pos 0))) σ) f
-      ∙ ap (λ r. bind r (λ _ υ. bind (run τ at (library_call τ.threads τ.shapes τ.number (private_shapes υ) call shape args) υ)
+      ∙ ap (λ b. choose b (called_library τ call shape at args) (give (number (pos 0))) σ) f
+      ∙ ap (λ r. bind r (λ _ υ. bind (library_steps τ at (library_call τ.threads τ.shapes τ.number (private_shapes υ) call shape args) υ)
       (λ v. give (value.Scalar v)))) (meets (is_some (meet_number call)) σ c n)
 
 pub enters : (codes : Codes) (thread budget : ℕ) → Enters codes thread budget

@@ -23,7 +23,7 @@ use Rattle.thread_steps.specs.States.{Thread, Res, bind, give, valued}
 use Rattle.thread_steps.specs.layer.Parts.{with_store}
 use Rattle.thread_steps.specs.Values.{kept, scalar_of}
 use Rattle.thread_steps.specs.Actions.{ask, answered}
-use Rattle.thread_steps.specs.Accesses.{run, expanded}
+use Rattle.thread_steps.specs.Accesses.{library_steps, expanded}
 use Rattle.stack_code.specs.layer.Codes.{Codes, thread_of}
 use Rattle.stack_code.specs.layer.Steps.{Conf, At, Halt, conf_of, further, steps}
 use Rattle.stack_code.specs.layer.Outcomes.{HasEnded, CodeMeans, beginning}
@@ -43,7 +43,7 @@ module _ (τ : Thread) (at : Place) (b : Body) where
       (later : List Reply) → fits τ.threads τ.shapes (Some k) (act.Read l false) r ≡ true
       → inside τ at (Reads l k go) b before (r ∷ later)
       ≡ inside τ at (go (value_in r)) b (before ++ act.Read l false ∷ []) later
-  unfolding run ask
+  unfolding library_steps ask
   read_step l k go r before later e =
       ap (λ t. onto (bind (bind (answered t (act.Read l false) r later (state_of b before (r ∷ later)))
       (λ r. give (value_in r))) (λ v. expanded τ at (go v)))) e
@@ -51,32 +51,32 @@ module _ (τ : Thread) (at : Place) (b : Body) where
   ask_step : (a : Action) (go : Reply → Expansion Scalar) (r : Reply) (before : List Action) (later : List Reply)
       → fits τ.threads τ.shapes None a r ≡ true
       → inside τ at (Asks a go) b before (r ∷ later) ≡ inside τ at (go r) b (before ++ a ∷ []) later
-  unfolding run ask
+  unfolding library_steps ask
   ask_step a go r before later e =
       ap (λ t. onto (bind (answered t a r later (state_of b before (r ∷ later))) (λ r. expanded τ at (go r)))) e
 
   load_step : (p : LocalPtr) (k : Kind) (go : Scalar → Expansion Scalar) (v : Value) (before : List Action)
       (later : List Reply) → loaded p k b.store ≡ Ok v
       → inside τ at (Loads p k go) b before later ≡ inside τ at (go (scalar_of v)) b before later
-  unfolding run
+  unfolding library_steps
   load_step p k go v before later e =
       ap (λ r. onto (bind (valued at r (state_of b before later)) (λ v. expanded τ at (go (scalar_of v))))) e
 
   store_step : (p : LocalPtr) (k : Kind) (v : Scalar) (go : Expansion Scalar) (s : Live) (before : List Action)
       (later : List Reply) → stored p k (kept k (value.Scalar v)) b.store ≡ Ok s
       → inside τ at (Stores p k v go) b before later ≡ inside τ at go (record b { store = s }) before later
-  unfolding run
+  unfolding library_steps
   store_step p k v go s before later e =
       ap (λ r. onto (bind (with_store at (state_of b before later) r) (λ _. expanded τ at go))) e
 
   give_step : (v : Scalar) (before : List Action) (later : List Reply)
       → inside τ at (Gives v) b before later ≡ conf (with_value v b) before later
-  unfolding run
+  unfolding library_steps
   give_step v before later = refl
 
   fail_step : (x : Expansion Scalar) (code : ℕ) (before : List Action) (later : List Reply) → FailsBy code x b
       → inside τ at x b before later ≡ Halt (Fault code at) (state_of b before later)
-  unfolding run
+  unfolding library_steps
   fail_step (Fails c) code before later e = ap (λ c. Halt (Fault c at) (state_of b before later)) e
   fail_step (Loads p k go) code before later e =
       ap (λ r. onto (bind (valued at r (state_of b before later)) (λ v. expanded τ at (go (scalar_of v))))) e
@@ -88,7 +88,7 @@ module _ (τ : Thread) (at : Place) (b : Body) where
 
   want_step : (x : Expansion Scalar) (a : Action) (before : List Action) → wanted_in x ≡ Some a
       → inside τ at x b before [] ≡ Halt (Wants a) (state_of b before [])
-  unfolding run ask
+  unfolding library_steps ask
   want_step (Gives v) a before e = absurd cc
   want_step (Fails code) a before e = absurd cc
   want_step (Reads l k go) a before e =

@@ -9,7 +9,7 @@ use Rattle.upc_values.specs.declared.action.Reply.{Reply}
 use Rattle.upc_values.specs.declared.record.ToldEnd.TheVariants as told
 use Rattle.upc_values.specs.Scalars.{zero}
 use Rattle.upc_values.specs.Expansion.{Expansion, Fails}
-use Rattle.upc_values.specs.LibraryCalls.{library_call, valued}
+use Rattle.upc_values.specs.LibraryCalls.{library_call, gives_zero}
 use Rattle.thread_steps.specs.layer.Ranges.{IsHeld}
 use Rattle.stack_code.specs.layer.Codes.{Codes, function_at}
 use Rattle.stack_code.specs.layer.Steps.{youngest}
@@ -75,9 +75,9 @@ module _ (codes : Codes) (thread budget : ℕ) (given : List Reply) where
     entered left f s =
         enters codes thread budget given left b next.place next.call next.shape next.arguments there exit f meets s
 
-    pub enters_so : (left : List Reply) (w : Walk) → Does ≡ valued (left_of codes.shapes w) → Formed
+    pub enters_so : (left : List Reply) (w : Walk) → Does ≡ gives_zero (left_of codes.shapes w) → Formed
         → Stands codes thread budget given left b
-        → StandsInside codes thread budget given left next.place (valued (left_of codes.shapes w))
+        → StandsInside codes thread budget given left next.place (gives_zero (left_of codes.shapes w))
         (without next.arguments b)
     enters_so left w e f s =
         subst (λ x. StandsInside codes thread budget given left next.place x (without next.arguments b)) e
@@ -107,7 +107,7 @@ module _ (codes : Codes) (thread budget : ℕ) (given : List Reply) where
       → HasHalted codes thread budget given e (Some (on_its_way c)) (record t { progress = q })
   halted_so Memory c t q h = tt
   halted_so (Asks a n) c t q h = (
-    subst (λ o. StandsInside codes thread budget given (listed o) c.place (valued (left_of codes.shapes c.walk))
+    subst (λ o. StandsInside codes thread budget given (listed o) c.place (gives_zero (left_of codes.shapes c.walk))
         (task_seen (record t { progress = q }))) h.1 h.0,
     (h.2, h.3),
   )
@@ -159,10 +159,10 @@ made_is n threads xs shapes o private s c args e f g h =
     ∙ ap (λ s. expansion threads shapes (private_of c s private) s) g
 
 pub fails_as : (e : Refused) (x : Expansion (Unit {0})) (y : Expansion Scalar) (at : Place) (n : ℕ) (halt : Halt)
-    → y ≡ valued x → RefusesSo e x → IsRefusal e at n halt → FailsSo halt y at n
+    → y ≡ gives_zero x → RefusesSo e x → IsRefusal e at n halt → FailsSo halt y at n
 fails_as refused.Memory x y at n halt e h r = subst (λ (k : Halt). FailsSo k y at n) (sym r) tt
 fails_as (refused.Error code) x y at n halt e h r =
-    subst (λ (k : Halt). FailsSo k y at n) (sym r) (e ∙ ap valued h, refl, refl)
+    subst (λ (k : Halt). FailsSo k y at n) (sym r) (e ∙ ap gives_zero h, refl, refl)
 
 -- ---- where a call may begin
 

@@ -2,7 +2,7 @@
 
 ghost use Rattle.std.specs.Prelude.{◌≡◌, IfOk, IfErr, Some, true};
 ghost use Rattle.thread_steps.specs.Library.{is_formed};
-ghost use Rattle.upc_values.specs.LibraryCalls.{library_call, valued};
+ghost use Rattle.upc_values.specs.LibraryCalls.{library_call, gives_zero};
 ghost use Rattle.thread_values.specs.layer.Collectives.{collective_number};
 ghost use Rattle.thread_values.specs.layer.Copies.{shapes_in};
 ghost use Rattle.stack_machine.specs.code.Calls.{left_of, FailsSo, UnlessWant, WritesHeld};
@@ -30,7 +30,7 @@ impl Progress {
         requires { collective_number next.now.call ≡ Some number }
         ensures made { IfOk result (λ w. library_call code.now.threads code.now.shapes runner.now.number
             (shapes_in self.now.store) next.now.call next.now.shape args.now
-            ≡ valued (left_of code.now.shapes w)) }
+            ≡ gives_zero (left_of code.now.shapes w)) }
         ensures values { IfOk result (λ w. WritesHeld code.now.threads code.now.shapes
             (left_of code.now.shapes w)) }
         ensures fails { IfErr result (λ e. FailsSo e (library_call code.now.threads code.now.shapes

@@ -4,7 +4,7 @@ ghost use Rattle.std.specs.Prelude.{◌≡◌, ◌+◌, ◌<◌, ◌≤◌, ◌^
 ghost use Rattle.std.specs.Prelude.{slice_get, length, true, pos, IsTrue, ◌∷◌};
 ghost use Rattle.stack_machine.specs.declared.calls.Task.{Task};
 ghost use Rattle.upc_values.specs.declared.action.Reply.{Reply};
-ghost use Rattle.upc_values.specs.LibraryCalls.{library_call, valued};
+ghost use Rattle.upc_values.specs.LibraryCalls.{library_call, gives_zero};
 ghost use Rattle.stack_code.specs.layer.Codes.{function_at};
 ghost use Rattle.thread_values.specs.layer.Copies.{copies, shapes_in};
 ghost use Rattle.stack_machine.specs.code.Calls.{call_instr, left_of, the_call, on_its_way};
@@ -105,7 +105,7 @@ impl Progress {
         requires copies { copies next.now.call ≡ true }
         ensures made { IfOk result (λ w. library_call code.now.threads code.now.shapes runner.now.number
             (shapes_in self.now.store) next.now.call next.now.shape args.now
-            ≡ valued (left_of code.now.shapes w)) }
+            ≡ gives_zero (left_of code.now.shapes w)) }
         ensures values { IfOk result (λ w. WritesHeld code.now.threads code.now.shapes
             (left_of code.now.shapes w)) }
         ensures fails { IfErr result (λ e. FailsSo e (library_call code.now.threads code.now.shapes
@@ -133,7 +133,7 @@ impl Progress {
         requires walks { walks next.now.call ≡ true }
         ensures made { IfOk result (λ w. library_call code.now.threads code.now.shapes runner.now.number
             (shapes_in self.now.store) next.now.call next.now.shape args.now
-            ≡ valued (left_of code.now.shapes w)) }
+            ≡ gives_zero (left_of code.now.shapes w)) }
         ensures values { IfOk result (λ w. WritesHeld code.now.threads code.now.shapes
             (left_of code.now.shapes w)) }
         ensures fails { IfErr result (λ e. FailsSo e (library_call code.now.threads code.now.shapes

@@ -22,7 +22,7 @@ use Rattle.upc_values.specs.LibraryCalls.{library_call, meet_number}
 use Rattle.upc_values.specs.Expansion.{Expansion, Gives, Fails, Reads, Asks, Loads, Stores, value_in}
 use Rattle.upc_values.specs.Records.{beats, is_beat}
 use Rattle.upc_values.proofs.Records.{beats-push}
-use Rattle.private_store.specs.Live.{Live, called, returned}
+use Rattle.private_store.specs.Live.{Live, call_begun, returned}
 use Rattle.thread_steps.specs.States.{Thread, State, Res, Val, Over, Unfinished, bind, Doing, ◌>>=◌, ◌>>◌}
 use Rattle.thread_steps.specs.layer.Parts.{is_deep}
 use Rattle.thread_steps.specs.layer.Parts as parts
@@ -247,19 +247,19 @@ module _ (τ : Thread) where
       expanded_beating n d b at after h)
 
   run_beating : {A : Type 0} (n d : ℕ) (at : Place) (e : Expansion A) → IsOrderly false false e
-      → Beating n d A (x.run τ at e)
-  unfolding x.run
+      → Beating n d A (x.library_steps τ at e)
+  unfolding x.library_steps
   run_beating n d at e h = expanded_beating n d false at e h
 
   called_beating : (n d : ℕ) (call : LibraryCall) (shape : ℕ) (at : Place) (args : List Value)
-      → Beating n d Value (l.called τ call shape at args)
+      → Beating n d Value (l.called_library τ call shape at args)
   called_beating n d call shape at args =
       then_beating n d (Unit {0}) Value (choose (is_some (meet_number call)) (a.meet τ at) skip) _
       (basic_choose_kept Beating basic_beating n d (is_some (meet_number call)) (a.meet τ at) skip
       (meet_beating n d at) (give_beating n d (Unit {0}) tt)) (λ u.
       then_beating n d (ℕ → Option Shape) Value (know parts.private_shapes) _ (record { by = λ σ h. h }) (λ private.
       then_beating n d Scalar Value
-      (x.run τ at (library_call τ.threads τ.shapes τ.number private call shape args)) _
+      (x.library_steps τ at (library_call τ.threads τ.shapes τ.number private call shape args)) _
       (run_beating n d at _
       (library_orderly false τ.threads τ.shapes τ.number private call shape args (λ e. refl)).by) (λ v.
       give_beating n d Value (value.Scalar v))))
@@ -277,11 +277,11 @@ module _ (τ : Thread) where
       back Unfinished h = tt
 
       by_depth : (b : Bool) (σ : State) → is_deep σ ≡ b → Beaten d σ
-          → Ends d (bind (bind (choose b (fault DEPTH at) skip σ) (λ _. change (with_live called)))
+          → Ends d (bind (bind (choose b (fault DEPTH at) skip σ) (λ _. change (with_live call_begun)))
           (λ _. m >>= (λ v. change (with_live returned) >> give v)))
       by_depth true σ e h = tt
       by_depth false σ e h =
-          let υ = with_live called σ in
+          let υ = with_live call_begun σ in
           back (m υ) ((bm (not_deep d (depth σ.store) e h.deep)).by υ
           (record { beaten = h.beaten; deep = called_depth σ.store ∙ ap suc h.deep }))
 

@@ -11,7 +11,7 @@ use Rattle.upc_values.specs.declared.scalar.Value.{Value}
 use Rattle.private_store.specs.declared.frame.Block.{Block}
 use Rattle.private_store.specs.declared.frame.Call.{Call}
 use Rattle.private_store.specs.declared.store.TheConstants.{MOST_CALLS}
-use Rattle.private_store.specs.Live.{Live, youngest, older, open_blocks, left_from, left, called, returned_from}
+use Rattle.private_store.specs.Live.{Live, youngest, older, open_blocks, left_from, left, call_begun, returned_from}
 use Rattle.private_store.specs.Live.{returned, recounted_from, recounted}
 use Rattle.private_store.specs.Cells.{Cell, stored, reached, put_in}
 
@@ -55,7 +55,7 @@ recounted_depth n s = by_call (youngest s.calls) refl
     by_call None e = refl
     by_call (Some c) e = length-set s.calls (length s.calls - 1) (record c { controls = n })
 
-pub called_depth : (s : Live) → depth (called s) ≡ suc (depth s)
+pub called_depth : (s : Live) → depth (call_begun s) ≡ suc (depth s)
 called_depth s = length_push s.calls _ ∙ omega arith
 
 pub returned_depth : (n : ℕ) (s : Live) → depth s ≡ suc n → depth (returned s) ≡ n

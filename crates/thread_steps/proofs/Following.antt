@@ -11,7 +11,7 @@ use Rattle.upc_values.specs.declared.action.Reply.{Reply}
 use Rattle.upc_values.specs.declared.record.ToldEnd.{ToldEnd}
 use Rattle.upc_values.specs.declared.record.ToldEnd.TheVariants.{Wants, Misfit, Ended, Exit, Fault, OutOfTicks}
 use Rattle.upc_values.specs.Formed.{fits}
-use Rattle.private_store.specs.Live.{Live, called, returned}
+use Rattle.private_store.specs.Live.{Live, call_begun, returned}
 use Rattle.thread_steps.specs.States.{Thread, State, Res, Val, Over, Unfinished, bind, Doing, ◌>>=◌, ◌>>◌}
 use Rattle.thread_steps.specs.layer.Parts.{is_deep, with_tick, with_store, with_notified, answered_from}
 use Rattle.thread_steps.specs.States.{give, skip, know, change, choose, over, fault}
@@ -276,13 +276,13 @@ module _ (τ : Thread) where
   call_follows n d A at m lm = record { by = λ σ same. by_depth (is_deep σ) σ refl same }
     where
       run : Bool → State → Res A
-      run b σ = bind (bind (choose b (fault DEPTH at) skip σ) (λ _. change (with_live called))) (λ _. m >>= back d A)
+      run b σ = bind (bind (choose b (fault DEPTH at) skip σ) (λ _. change (with_live call_begun))) (λ _. m >>= back d A)
 
       by_depth : (b : Bool) (σ : State) → is_deep σ ≡ b → depth σ.store ≡ d
           → Goes A d σ (run b σ) (λ x xs. run b (plus σ x xs))
       by_depth true σ e same = record { grown = (begins_itself σ.actions, refl, tt); extends = λ x xs. refl }
       by_depth false σ e same =
-          let υ = with_live called σ in
+          let υ = with_live call_begun σ in
           back_goes d A σ υ (m υ) (λ x xs. m (plus υ x xs)) refl refl
           ((lm (not_deep d (depth σ.store) e same)).by υ (called_depth σ.store ∙ omega arith))
 

@@ -192,8 +192,8 @@ module _ (τ : Thread) (P : Property) (K : IsAsking τ P) (n d : ℕ) where
       asked_first (x.save_private kind at q (value.Scalar v)) _ (asked_save_private_kept kind at q (value.Scalar v))
       (λ u. asked_expanded_kept at after)
 
-  asked_run_kept : {A : Type 0} (at : Place) (e : Expansion A) → P n d A (x.run τ at e)
-  unfolding x.run
+  asked_run_kept : {A : Type 0} (at : Place) (e : Expansion A) → P n d A (x.library_steps τ at e)
+  unfolding x.library_steps
   asked_run_kept at e = asked_expanded_kept at e
 
   asked_meeting_kept : (at : Place) (call : LibraryCall)
@@ -202,12 +202,12 @@ module _ (τ : Thread) (P : Property) (K : IsAsking τ P) (n d : ℕ) where
       (asked_meet_kept at) asked_skip_kept
 
   pub asked_called_kept : (call : LibraryCall) (shape : ℕ) (at : Place) (args : List Value)
-      → P n d Value (l.called τ call shape at args)
+      → P n d Value (l.called_library τ call shape at args)
   asked_called_kept call shape at args =
       asked_first (choose (is_some (meet_number call)) (a.meet τ at) skip) _ (asked_meeting_kept at call) (λ u.
       asked_first (know parts.private_shapes) _ (K.basic.of_know n d (ℕ → Option Shape) parts.private_shapes
       (λ σ as_ rs. refl)) (λ private.
-      asked_first (x.run τ at (library_call τ.threads τ.shapes τ.number private call shape args)) _
+      asked_first (x.library_steps τ at (library_call τ.threads τ.shapes τ.number private call shape args)) _
       (asked_run_kept at (library_call τ.threads τ.shapes τ.number private call shape args))
       (λ v. K.basic.of_give n d Value (value.Scalar v))))
 
@@ -232,7 +232,7 @@ pub record IsKept (τ : Thread) (P : Property) : Type 1 where
   pub of_notify : (n d : ℕ) (at : Place) (mark : Mark) → P n d (Unit {0}) (a.notify τ at mark)
   pub of_wait : (n d : ℕ) (at : Place) (mark : Mark) → P n d (Unit {0}) (a.wait τ at mark)
   pub of_called : (n d : ℕ) (call : LibraryCall) (shape : ℕ) (at : Place) (args : List Value)
-      → P n d Value (l.called τ call shape at args)
+      → P n d Value (l.called_library τ call shape at args)
   pub of_tick : (n d : ℕ) → P n d (Unit {0}) (a.tick τ)
   pub of_turn : (n d : ℕ) (A : Type 0) (m : Doing A) → P n d A m → P (suc n) d A (a.tick τ >> m)
   pub of_call : (n d : ℕ) (A : Type 0) (at : Place) (m : Doing A) → (d < 1000 → P n (suc d) A m)
@@ -397,7 +397,7 @@ module _ (τ : Thread) (P : Property) (K : IsKept τ P) (n d : ℕ) where
   formed_kept : (call : LibraryCall) (shape : ℕ) (at : Place) (args : List Value)
       → P n d Value (l.formed_call τ call shape at args)
   formed_kept call shape at args =
-      choose_kept (l.is_formed τ.shapes call shape args) (l.called τ call shape at args) (give (number (pos 0)))
+      choose_kept (l.is_formed τ.shapes call shape args) (l.called_library τ call shape at args) (give (number (pos 0)))
       (K.of_called n d call shape at args) (K.basic.of_give n d Value (number (pos 0)))
 
   by_exit : (test : Bool) (call : LibraryCall) (shape : ℕ) (at : Place) (args : List Value)

@@ -13,7 +13,7 @@ use Rattle.upc_values.specs.declared.action.Reply.{Reply}
 use Rattle.upc_values.specs.declared.record.ToldEnd.{ToldEnd}
 use Rattle.upc_values.specs.declared.record.ToldEnd.TheVariants.{Wants, Misfit, Ended, Exit, Fault, OutOfTicks}
 use Rattle.upc_values.specs.Formed.{fits}
-use Rattle.private_store.specs.Live.{Live, called, returned}
+use Rattle.private_store.specs.Live.{Live, call_begun, returned}
 use Rattle.thread_steps.specs.States.{Thread, State, Res, Val, Over, Unfinished, bind, Doing, ◌>>=◌, ◌>>◌, give, skip}
 use Rattle.thread_steps.specs.layer.Parts.{is_deep, with_tick, with_store, answered_from}
 use Rattle.thread_steps.specs.States.{change, choose, over, fault}
@@ -163,11 +163,11 @@ module _ (τ : Thread) where
       by_depth : (b : Bool) (σ : State) → is_deep σ ≡ b → τ.budget ≤ n + σ.ticks → σ.ticks < τ.budget
           → depth σ.store ≡ d
           → Enough A d σ.ticks
-          (bind (bind (choose b (fault DEPTH at) skip σ) (λ _. change (with_live called)))
+          (bind (bind (choose b (fault DEPTH at) skip σ) (λ _. change (with_live call_begun)))
           (λ _. m >>= (λ v. change (with_live returned) >> give v)))
       by_depth true σ e fuel lt same = record { by = (omega arith, tt) }
       by_depth false σ e fuel lt same =
-          let υ = with_live called σ in
+          let υ = with_live call_begun σ in
           ended (m υ) σ.ticks
           ((lm (not_deep d (depth σ.store) e same)).by υ fuel lt (called_depth σ.store ∙ omega arith))
 

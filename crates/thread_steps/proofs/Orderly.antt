@@ -347,7 +347,7 @@ asks_orderly {flag = flag} a h = record { by = (flag, h, given_orderly flag) }
 gives_orderly : {flag : Bool} (v : Scalar) → Orderly flag Scalar (Gives v)
 gives_orderly v = record { by = refl }
 
-valued_orderly : {flag : Bool} (e : Expansion (Unit {0})) → Orderly flag (Unit {0}) e → Orderly flag Scalar (l.valued e)
+valued_orderly : {flag : Bool} (e : Expansion (Unit {0})) → Orderly flag (Unit {0}) e → Orderly flag Scalar (l.gives_zero e)
 valued_orderly e h = then_orderly e (λ u. Gives zero) h (λ u. gives_orderly zero)
 
 locked_orderly : {flag : Bool} (i : ℕ) (a : Action) → Turns flag a flag → Orderly flag Scalar (l.with_lock i (l.asks a))

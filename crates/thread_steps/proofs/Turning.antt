@@ -21,7 +21,7 @@ use Rattle.upc_values.specs.declared.record.ToldEnd.TheVariants.{Wants, Misfit, 
 use Rattle.upc_values.specs.Formed.{fits}
 use Rattle.upc_values.specs.LibraryCalls.{library_call, meet_number}
 use Rattle.upc_values.specs.Expansion.{Expansion, Gives, Fails, Reads, Asks, Loads, Stores, value_in}
-use Rattle.private_store.specs.Live.{Live, called, returned}
+use Rattle.private_store.specs.Live.{Live, call_begun, returned}
 use Rattle.private_store.specs.Cells.{loaded, stored}
 use Rattle.thread_steps.specs.States.{Thread, State, Res, Val, Over, Unfinished, bind, Doing, ◌>>=◌, ◌>>◌}
 use Rattle.thread_steps.specs.layer.Parts.{turned_by, is_deep}
@@ -207,8 +207,8 @@ module _ (τ : Thread) where
       expanded_steps d flag b at after h)
 
   run_steps : {A : Type 0} (d : ℕ) (flag : Bool) (at : Place) (e : Expansion A) → IsOrderly flag flag e
-      → Steps A d flag flag flag flag (x.run τ at e)
-  unfolding x.run
+      → Steps A d flag flag flag flag (x.library_steps τ at e)
+  unfolding x.library_steps
   run_steps d flag at e h = expanded_steps d flag flag at e h
 
   -- ---- the property
@@ -336,14 +336,14 @@ module _ (τ : Thread) where
     expansion private = library_call τ.threads τ.shapes τ.number private call shape args
 
     abbrev goes_on : Doing Value
-    goes_on = know parts.private_shapes >>= (λ private. x.run τ at
+    goes_on = know parts.private_shapes >>= (λ private. x.library_steps τ at
         (library_call τ.threads τ.shapes τ.number private call shape args) >>= (λ v. give (value.Scalar v)))
 
     goes_steps : (flag : Bool) → (is_some (meet_number call) ≡ true → flag ≡ false)
         → Steps Value d flag flag flag flag goes_on
     goes_steps flag h = record {
       by = λ σ s.
-          (then_steps d flag flag flag flag flag flag (x.run τ at
+          (then_steps d flag flag flag flag flag flag (x.library_steps τ at
           (library_call τ.threads τ.shapes τ.number (parts.private_shapes σ) call shape args)) _
           (run_steps d flag at _ (library_orderly flag τ.threads τ.shapes τ.number (parts.private_shapes σ) call shape
           args h).by)
@@ -376,7 +376,7 @@ module _ (τ : Thread) where
           ((goes_steps σ.notified (no_meeting e σ.notified)).by σ h);
     }
 
-    called_in_turn : InTurn n d Value (l.called τ call shape at args)
+    called_in_turn : InTurn n d Value (l.called_library τ call shape at args)
     called_in_turn = by_meeting (is_some (meet_number call)) refl
 
   -- ---- calls
@@ -392,11 +392,11 @@ module _ (τ : Thread) where
       back Unfinished h = tt
 
       by_depth : (b : Bool) (σ : State) → is_deep σ ≡ b → Stands d σ.notified σ.notified σ
-          → Ends d (bind (bind (choose b (fault DEPTH at) skip σ) (λ _. change (with_live called)))
+          → Ends d (bind (bind (choose b (fault DEPTH at) skip σ) (λ _. change (with_live call_begun)))
           (λ _. m >>= (λ v. change (with_live returned) >> give v)))
       by_depth true σ e h = (σ.notified, h.turn)
       by_depth false σ e h =
-          let υ = with_live called σ in
+          let υ = with_live call_begun σ in
           back (m υ) ((lm (not_deep d (depth σ.store) e h.deep)).by υ
           (record { turn = h.turn; noted = refl; deep = called_depth σ.store ∙ ap suc h.deep }))
 

@@ -103,5 +103,5 @@ module _ (τ : Thread) where
     expanded at after
 
   -- The steps of a call of the library, one after another, at the place of the call.
-  unfoldable pub run : {A : Type 0} → Place → Expansion A → Doing A
-  run at x = expanded at x
+  unfoldable pub library_steps : {A : Type 0} → Place → Expansion A → Doing A
+  library_steps at x = expanded at x

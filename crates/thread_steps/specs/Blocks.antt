@@ -11,7 +11,8 @@ use Rattle.upc_values.specs.declared.scalar.Scalar.TheVariants.{Shared}
 use Rattle.upc_values.specs.declared.scalar.Value.{Value}
 use Rattle.upc_values.specs.declared.scalar.Value.TheVariants as value
 use Rattle.private_store.specs.declared.store.TheConstants.{MOST_BYTES, MOST_CALLS}
-use Rattle.private_store.specs.Live.{Live, bytes_of, bytes_in, entered, left, called, returned, controls, recounted}
+use Rattle.private_store.specs.Live.{Live, thing_bytes, bytes_in, entered, left, call_begun, returned}
+use Rattle.private_store.specs.Live.{controls, recounted}
 use Rattle.private_store.specs.Live.{local_number}
 use Rattle.thread_steps.specs.States.{Thread, State, Doing, ◌>>=◌, ◌>>◌, give, know, change, fault_if, valued}
 use Rattle.thread_steps.specs.Values.{number_of, truth_value}
@@ -26,7 +27,7 @@ with_live f σ = record σ { store = f σ.store }
 -- are run error 20 (C99 6.2.4, 6.8.2).
 unfoldable pub open_block : (from : ℕ) → List Shape → Place → Doing (Unit {0})
 open_block from shapes at = do
-  fault_if (λ σ. nat_lt MOST_BYTES (bytes_of σ.store.objects + bytes_in shapes)) PRIVATE_SPACE at
+  fault_if (λ σ. nat_lt MOST_BYTES (thing_bytes σ.store.objects + bytes_in shapes)) PRIVATE_SPACE at
   change (with_live (entered from shapes))
 
 -- The youngest block ends, and its objects with it (C99 6.2.4).
@@ -45,7 +46,7 @@ local_object n = know (λ σ.
 unfoldable pub begin_call : Place → Doing (Unit {0})
 begin_call at = do
   fault_if (λ σ. nat_le MOST_CALLS (length σ.store.calls)) DEPTH at
-  change (with_live called)
+  change (with_live call_begun)
 
 -- The youngest call ends, with its blocks and their objects (C99 6.2.4, 6.8.6.4).
 unfoldable pub end_call : Doing (Unit {0})

@@ -17,7 +17,7 @@ use Rattle.private_store.specs.Live.{thing}
 use Rattle.thread_steps.specs.States.{Thread, Doing, ◌>>=◌, ◌>>◌, give, skip, know, choose}
 use Rattle.thread_steps.specs.Values.{number, number_of}
 use Rattle.thread_steps.specs.Actions.{ask, meet, exit}
-use Rattle.thread_steps.specs.Accesses.{run}
+use Rattle.thread_steps.specs.Accesses.{library_steps}
 
 -- The call is one of the collective calls 1 to 12 (UPC 7.2.2, 7.2.4, 7.3).
 abbrev pub is_call : Call → Bool
@@ -48,18 +48,18 @@ is_formed shapes call shape args =
 module _ (τ : Thread) where
   -- A call of the library does what its definition says, with the shapes of the private objects that live, by number; a
   -- collective one begins only where the thread may meet (UPC 6.6.1, 7).
-  abbrev pub called : LibraryCall → (shape : ℕ) → Place → List Value → Doing Value
-  called call shape at args = do
+  abbrev pub called_library : LibraryCall → (shape : ℕ) → Place → List Value → Doing Value
+  called_library call shape at args = do
     choose (is_some (meet_number call)) (meet τ at) skip
     private ← know (λ σ number. option_map (λ x. x.shape) (thing number σ.store.objects))
-    v ← run τ at (library_call τ.threads τ.shapes τ.number private call shape args)
+    v ← library_steps τ at (library_call τ.threads τ.shapes τ.number private call shape args)
     give (value.Scalar v)
 
   -- A call of the library, which does nothing and gives 0 where it is collective and its arguments are not of its
   -- parameters' types.
   abbrev pub formed_call : LibraryCall → (shape : ℕ) → Place → List Value → Doing Value
   formed_call call shape at args =
-      choose (is_formed τ.shapes call shape args) (called call shape at args) (give (number (pos 0)))
+      choose (is_formed τ.shapes call shape args) (called_library call shape at args) (give (number (pos 0)))
 
   -- A call of the library with arguments of its parameters' types; an allocation makes elements of the shape with
   -- that number, and upc_global_exit ends the thread.

@@ -17,9 +17,9 @@ use Rattle.upc_values.specs.Scalars.{zero}
 use Rattle.upc_values.specs.LibraryCalls.{library_call, meet_number, given_by}
 use Rattle.thread_steps.specs.States.{Thread, State, Val, bind, give, skip, choose, valued}
 use Rattle.thread_steps.specs.Actions.{meet, exit}
-use Rattle.thread_steps.specs.Accesses.{run, expanded}
+use Rattle.thread_steps.specs.Accesses.{library_steps, expanded}
 use Rattle.thread_steps.specs.Values.{number}
-use Rattle.thread_steps.specs.Library.{library, called, formed_call, is_formed}
+use Rattle.thread_steps.specs.Library.{library, called_library, formed_call, is_formed}
 use Rattle.thread_steps.specs.layer.Parts.{first_number, private_shapes, is_exit}
 use Rattle.thread_steps.proofs.Thens.{then_same}
 use Rattle.thread_values.specs.declared.library.LibraryStep.{LibraryStep}
@@ -51,7 +51,7 @@ module _ (τ : Thread) (at : Place) (σ : State) (c : LibraryCall) (shape : ℕ)
   unfolding library
   unformed h e =
       ap (λ b. choose b (exit τ (first_number args)) (formed_call τ c shape at args) σ) (no_exit c h)
-      ∙ ap (λ b. choose b (called τ c shape at args) (give (number (pos 0))) σ) e
+      ∙ ap (λ b. choose b (called_library τ c shape at args) (give (number (pos 0))) σ) e
 
   -- Any other goes on as its step says.
   pub formed : (step : LibraryStep) → asks_once c ≡ true → is_formed τ.shapes c shape args ≡ true
@@ -59,13 +59,13 @@ module _ (τ : Thread) (at : Place) (σ : State) (c : LibraryCall) (shape : ℕ)
       → library_call τ.threads τ.shapes τ.number private c shape args ≡ expansion_of step)
       → library τ c shape at args σ
       ≡ bind (choose (is_some (meet_number c)) (meet τ at) skip σ)
-      (λ _ υ. bind (run τ at (expansion_of step) υ) (λ v. give (value.Scalar v)))
+      (λ _ υ. bind (library_steps τ at (expansion_of step) υ) (λ v. give (value.Scalar v)))
   unfolding library
   formed step h e go =
       ap (λ b. choose b (exit τ (first_number args)) (formed_call τ c shape at args) σ) (no_exit c h)
-      ∙ ap (λ b. choose b (called τ c shape at args) (give (number (pos 0))) σ) e
+      ∙ ap (λ b. choose b (called_library τ c shape at args) (give (number (pos 0))) σ) e
       ∙ then_same (choose (is_some (meet_number c)) (meet τ at) skip σ)
-      (λ _ υ. bind (run τ at (library_call τ.threads τ.shapes τ.number (private_shapes υ) c shape args) υ)
+      (λ _ υ. bind (library_steps τ at (library_call τ.threads τ.shapes τ.number (private_shapes υ) c shape args) υ)
       (λ v. give (value.Scalar v)))
-      (λ _ υ. bind (run τ at (expansion_of step) υ) (λ v. give (value.Scalar v)))
-      (λ _ υ. ap (λ x. bind (run τ at x υ) (λ v. give (value.Scalar v))) (go (private_shapes υ)))
+      (λ _ υ. bind (library_steps τ at (expansion_of step) υ) (λ v. give (value.Scalar v)))
+      (λ _ υ. ap (λ x. bind (library_steps τ at x υ) (λ v. give (value.Scalar v))) (go (private_shapes υ)))

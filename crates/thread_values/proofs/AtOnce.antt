@@ -12,9 +12,9 @@ use Rattle.upc_values.specs.Expansion.{Expansion, Gives, Fails, Reads, Asks, Loa
 use Rattle.upc_values.specs.LibraryCalls.{library_call, meet_number}
 use Rattle.thread_steps.specs.States.{Thread, State, Res, bind, give, skip, choose, valued}
 use Rattle.thread_steps.specs.Actions.{meet, exit}
-use Rattle.thread_steps.specs.Accesses.{run}
+use Rattle.thread_steps.specs.Accesses.{library_steps}
 use Rattle.thread_steps.specs.Values.{number}
-use Rattle.thread_steps.specs.Library.{library, called, formed_call, is_formed}
+use Rattle.thread_steps.specs.Library.{library, called_library, formed_call, is_formed}
 use Rattle.thread_steps.specs.layer.Parts.{first_number, private_shapes, is_exit}
 use Rattle.thread_values.specs.layer.Results.{asks_nothing, given_at_once}
 
@@ -32,10 +32,10 @@ some_if false o x h = absurd (cc)
 
 module _ (τ : Thread) (at : Place) (σ : State) where
   going : Expansion Scalar → Res Value
-  going x = bind (run τ at x σ) (λ v. give (value.Scalar v))
+  going x = bind (library_steps τ at x σ) (λ v. give (value.Scalar v))
 
   goes_so : (x : Expansion Scalar) (r : Result Value ℕ) → Some r ≡ given_at_once x → going x ≡ valued at r σ
-  unfolding going run
+  unfolding going library_steps
   goes_so (Gives v) r h = let same : Ok (value.Scalar v) ≡ r = cc in ap (λ (y : Result Value ℕ). valued at y σ) same
   goes_so (Fails code) r h = let same : Err code ≡ r = cc in ap (λ (y : Result Value ℕ). valued at y σ) same
   goes_so (Reads l k after) r h = absurd (cc)
@@ -49,7 +49,7 @@ module _ (τ : Thread) (at : Place) (σ : State) where
 
     behind_meet : Bool → Res Value
     behind_meet b = bind (choose b (meet τ at) skip σ) (λ _ υ.
-        bind (run τ at (library_call τ.threads τ.shapes τ.number (private_shapes υ) c shape args) υ)
+        bind (library_steps τ at (library_call τ.threads τ.shapes τ.number (private_shapes υ) c shape args) υ)
         (λ v. give (value.Scalar v)))
 
     library_is : asks_nothing c ≡ true → library τ c shape at args σ ≡ going comes_to
@@ -57,7 +57,7 @@ module _ (τ : Thread) (at : Place) (σ : State) where
     library_is h =
         let p = plain_call τ.shapes shape args c h in
         ap (λ b. choose b (exit τ (first_number args)) (formed_call τ c shape at args) σ) p.0
-        ∙ ap (λ b. choose b (called τ c shape at args) (give (number (pos 0))) σ) p.1
+        ∙ ap (λ b. choose b (called_library τ c shape at args) (give (number (pos 0))) σ) p.1
         ∙ ap behind_meet p.2
 
     -- What such a call gives, by what is found of its expansion.

@@ -9,7 +9,7 @@ use Rattle.upc_values.specs.declared.library.LibraryCall.{LibraryCall}
 use Rattle.upc_values.specs.declared.library.LibraryCall.TheVariants as call
 use Rattle.upc_values.specs.Calls.{call_of}
 use Rattle.upc_values.specs.Expansions.{collective}
-use Rattle.upc_values.specs.LibraryCalls.{library_call, valued, meet_number}
+use Rattle.upc_values.specs.LibraryCalls.{library_call, gives_zero, meet_number}
 use Rattle.thread_steps.specs.Library.{is_formed, is_call}
 use Rattle.thread_steps.specs.layer.Parts.{is_exit}
 use Rattle.thread_values.specs.layer.Collectives.{collective_number, scalars_met}
@@ -53,8 +53,8 @@ collective_formed shapes shape args c n h =
 pub collective_means : (threads : ℕ) (shapes : List Shape) (me : ℕ) (private : ℕ → Option Shape) (shape : ℕ)
     (args : List Value) (c : LibraryCall) (n : ℕ) → collective_number c ≡ Some n
     → library_call threads shapes me private c shape args
-    ≡ valued (collective threads shapes me n (scalars_met c args))
+    ≡ gives_zero (collective threads shapes me n (scalars_met c args))
 collective_means threads shapes me private shape args c n h =
     by_number (λ c n. library_call threads shapes me private c shape args
-    ≡ valued (collective threads shapes me n (scalars_met c args)))
+    ≡ gives_zero (collective threads shapes me n (scalars_met c args)))
     refl refl refl refl refl refl (λ k. refl) (λ k. refl) c n h

@@ -22,7 +22,7 @@ use Rattle.thread_steps.specs.Values.{number, number_of}
 use Rattle.thread_steps.specs.Operators.{operate, apply}
 use Rattle.thread_steps.specs.Pointers.{difference, order, apart, in_row}
 use Rattle.thread_steps.specs.layer.Parts.{outside, private_shapes}
-use Rattle.thread_steps.specs.Accesses.{run}
+use Rattle.thread_steps.specs.Accesses.{library_steps}
 use Rattle.thread_steps.specs.Library.{library}
 use Rattle.thread_values.specs.layer.Results.{number_value, operated, applied, ordered, row_test, asks_nothing, given_at_once}
 
@@ -74,8 +74,8 @@ lies_in_row count at p i σ = tested (int_le (pos 0) i && int_lt i (pos count))
 
 -- An expansion that gives at once.
 ended : (τ : Thread) (at : Place) (x : Expansion Scalar) (r : Result Value ℕ) (σ : State) → Some r ≡ given_at_once x
-    → (run τ at x >>= (λ v. give (value.Scalar v))) σ ≡ valued at r σ
-unfolding run
+    → (library_steps τ at x >>= (λ v. give (value.Scalar v))) σ ≡ valued at r σ
+unfolding library_steps
 ended τ at (Gives v) r σ e =
     let same : Ok (value.Scalar v) ≡ r = cc in
     ap (λ (x : Result Value ℕ). valued at x σ) same
@@ -92,7 +92,7 @@ pub library-at_once : (τ : Thread) (call : LibraryCall) (shape : ℕ) (at : Pla
     (r : Result Value ℕ) → asks_nothing call ≡ true
     → Some r ≡ given_at_once (library_call τ.threads τ.shapes τ.number (private_shapes σ) call shape args)
     → library τ call shape at args σ ≡ valued at r σ
-unfolding library run
+unfolding library library_steps
 library-at_once τ ThreadOf shape at args σ r h e =
     ended τ at (library_call τ.threads τ.shapes τ.number (private_shapes σ) ThreadOf shape args) r σ e
 library-at_once τ PhaseOf shape at args σ r h e =

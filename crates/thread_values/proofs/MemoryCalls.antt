@@ -8,16 +8,16 @@ use Rattle.upc_values.specs.declared.scalar.Value.TheVariants as value
 use Rattle.upc_values.specs.declared.library.LibraryCall.{LibraryCall}
 use Rattle.upc_values.specs.declared.library.LibraryCall.TheVariants as call
 use Rattle.upc_values.specs.LibraryCalls as calls
-use Rattle.upc_values.specs.LibraryCalls.{library_call, valued, meet_number}
+use Rattle.upc_values.specs.LibraryCalls.{library_call, gives_zero, meet_number}
 use Rattle.upc_values.specs.Copying.{Area, copy, set}
 use Rattle.integers.specs.Integers.{converted}
 use Rattle.block_layout.specs.declared.kind.Kind.TheVariants as kind
 use Rattle.upc_text.specs.declared.place.Place.{Place}
 use Rattle.thread_steps.specs.States.{Thread, State, bind, give, skip, choose}
 use Rattle.thread_steps.specs.Actions.{meet, exit}
-use Rattle.thread_steps.specs.Accesses.{run}
+use Rattle.thread_steps.specs.Accesses.{library_steps}
 use Rattle.thread_steps.specs.Values.{number}
-use Rattle.thread_steps.specs.Library.{library, called, formed_call, is_formed}
+use Rattle.thread_steps.specs.Library.{library, called_library, formed_call, is_formed}
 use Rattle.thread_steps.specs.layer.Parts.{first_number, private_shapes, is_exit}
 use Rattle.upc_library.specs.layer.Wishes.{area_of}
 use Rattle.thread_values.specs.layer.Copies.{copies, side_in, copying_of}
@@ -58,7 +58,7 @@ area_is (value.Local p) = refl
 module _ (threads : ℕ) (shapes : List Shape) (me shape : ℕ) (private : ℕ → Option Shape) where
   abbrev Means : LibraryCall → List Value → Type 0
   Means c args =
-      library_call threads shapes me private c shape args ≡ valued (copying_of threads shapes private c args)
+      library_call threads shapes me private c shape args ≡ gives_zero (copying_of threads shapes private c args)
 
   -- The shape of the private object in which an area lies.
   abbrev there : Area → Option Shape
@@ -69,8 +69,8 @@ module _ (threads : ℕ) (shapes : List Shape) (me shape : ℕ) (private : ℕ �
   memcpy_means (a ∷ []) = refl
   memcpy_means (a ∷ b ∷ []) = refl
   memcpy_means (a ∷ b ∷ value.Scalar (Int n) ∷ []) =
-      sym (ap (λ d. valued (copy threads shapes None d (area_of (side_in b)) (unsigned_abs n))) (area_is a)
-      ∙ ap (λ s. valued (copy threads shapes None (calls.area_of a) s (unsigned_abs n))) (area_is b))
+      sym (ap (λ d. gives_zero (copy threads shapes None d (area_of (side_in b)) (unsigned_abs n))) (area_is a)
+      ∙ ap (λ s. gives_zero (copy threads shapes None (calls.area_of a) s (unsigned_abs n))) (area_is b))
   memcpy_means (a ∷ b ∷ value.Scalar (Shared n) ∷ []) = refl
   memcpy_means (a ∷ b ∷ value.Scalar (Lock n) ∷ []) = refl
   memcpy_means (a ∷ b ∷ value.Local n ∷ []) = refl
@@ -84,8 +84,8 @@ module _ (threads : ℕ) (shapes : List Shape) (me shape : ℕ) (private : ℕ �
   memget_means (a ∷ []) = refl
   memget_means (a ∷ b ∷ []) = refl
   memget_means (a ∷ b ∷ value.Scalar (Int n) ∷ []) =
-      sym (ap (λ d. valued (copy threads shapes (there d) d (area_of (side_in b)) (unsigned_abs n))) (area_is a)
-      ∙ ap (λ s. valued (copy threads shapes (there (calls.area_of a)) (calls.area_of a) s (unsigned_abs n))) (area_is b))
+      sym (ap (λ d. gives_zero (copy threads shapes (there d) d (area_of (side_in b)) (unsigned_abs n))) (area_is a)
+      ∙ ap (λ s. gives_zero (copy threads shapes (there (calls.area_of a)) (calls.area_of a) s (unsigned_abs n))) (area_is b))
   memget_means (a ∷ b ∷ value.Scalar (Shared n) ∷ []) = refl
   memget_means (a ∷ b ∷ value.Scalar (Lock n) ∷ []) = refl
   memget_means (a ∷ b ∷ value.Local n ∷ []) = refl
@@ -99,8 +99,8 @@ module _ (threads : ℕ) (shapes : List Shape) (me shape : ℕ) (private : ℕ �
   memput_means (a ∷ []) = refl
   memput_means (a ∷ b ∷ []) = refl
   memput_means (a ∷ b ∷ value.Scalar (Int n) ∷ []) =
-      sym (ap (λ d. valued (copy threads shapes (there (area_of (side_in b))) d (area_of (side_in b)) (unsigned_abs n))) (area_is a)
-      ∙ ap (λ s. valued (copy threads shapes (there s) (calls.area_of a) s (unsigned_abs n))) (area_is b))
+      sym (ap (λ d. gives_zero (copy threads shapes (there (area_of (side_in b))) d (area_of (side_in b)) (unsigned_abs n))) (area_is a)
+      ∙ ap (λ s. gives_zero (copy threads shapes (there s) (calls.area_of a) s (unsigned_abs n))) (area_is b))
   memput_means (a ∷ b ∷ value.Scalar (Shared n) ∷ []) = refl
   memput_means (a ∷ b ∷ value.Scalar (Lock n) ∷ []) = refl
   memput_means (a ∷ b ∷ value.Local n ∷ []) = refl
@@ -117,7 +117,7 @@ module _ (threads : ℕ) (shapes : List Shape) (me shape : ℕ) (private : ℕ �
   memset_means (a ∷ value.Scalar (Lock b) ∷ []) = refl
   memset_means (a ∷ value.Local b ∷ []) = refl
   memset_means (a ∷ value.Scalar (Int b) ∷ value.Scalar (Int n) ∷ []) =
-      sym (ap (λ d. valued (set threads shapes None d (unsigned_abs (converted kind.UChar b)) (unsigned_abs n))) (area_is a))
+      sym (ap (λ d. gives_zero (set threads shapes None d (unsigned_abs (converted kind.UChar b)) (unsigned_abs n))) (area_is a))
   memset_means (a ∷ value.Scalar (Int b) ∷ value.Scalar (Shared n) ∷ []) = refl
   memset_means (a ∷ value.Scalar (Int b) ∷ value.Scalar (Lock n) ∷ []) = refl
   memset_means (a ∷ value.Scalar (Int b) ∷ value.Local n ∷ []) = refl
@@ -142,14 +142,14 @@ module _ (τ : Thread) (at : Place) (σ : State) (c : LibraryCall) (shape : ℕ)
   -- A memory call does what its arguments ask for.
   pub copied : copies c ≡ true
       → library τ c shape at args σ
-      ≡ bind (run τ at (valued (copying_of τ.threads τ.shapes (private_shapes σ) c args)) σ) (λ v. give (value.Scalar v))
+      ≡ bind (library_steps τ at (gives_zero (copying_of τ.threads τ.shapes (private_shapes σ) c args)) σ) (λ v. give (value.Scalar v))
   unfolding library
   copied h =
       ap (λ b. choose b (exit τ (first_number args)) (formed_call τ c shape at args) σ) (copies_no_exit c h)
-      ∙ ap (λ b. choose b (called τ c shape at args) (give (number (pos 0))) σ)
+      ∙ ap (λ b. choose b (called_library τ c shape at args) (give (number (pos 0))) σ)
       (copies_formed τ.shapes shape args c h)
       ∙ ap (λ b. bind (choose b (meet τ at) skip σ)
-      (λ _ υ. bind (run τ at (library_call τ.threads τ.shapes τ.number (private_shapes υ) c shape args) υ)
+      (λ _ υ. bind (library_steps τ at (library_call τ.threads τ.shapes τ.number (private_shapes υ) c shape args) υ)
       (λ v. give (value.Scalar v)))) (copies_apart c h)
-      ∙ ap (λ x. bind (run τ at x σ) (λ v. give (value.Scalar v)))
+      ∙ ap (λ x. bind (library_steps τ at x σ) (λ v. give (value.Scalar v)))
       (means τ.threads τ.shapes τ.number shape (private_shapes σ) args c h)

@@ -73,11 +73,11 @@ local_pointer_in σ c = local.Null
 
 -- The value with which an object of this kind begins by a constant: a converted integer, or a pointer to an object of
 -- the file; a lock pointer is null (C99 6.7.8).
-abbrev pub value_in : Setting → Kind → Constant → Value
-value_in σ (kinds.Shared n block) c = value.Scalar (scalar.Shared (shared_pointer_in σ block c))
-value_in σ (kinds.Private n) c = value.Local (local_pointer_in σ c)
-value_in σ kinds.Lock c = value.Scalar (scalar.Lock 0)
-value_in σ kind c = value.Scalar (scalar.Int (known_or_zero (cast_constant kind c)))
+abbrev pub initial_value : Setting → Kind → Constant → Value
+initial_value σ (kinds.Shared n block) c = value.Scalar (scalar.Shared (shared_pointer_in σ block c))
+initial_value σ (kinds.Private n) c = value.Local (local_pointer_in σ c)
+initial_value σ kinds.Lock c = value.Scalar (scalar.Lock 0)
+initial_value σ kind c = value.Scalar (scalar.Int (known_or_zero (cast_constant kind c)))
 
 -- ---- initialisers
 
@@ -90,7 +90,7 @@ scalar_kind targets b = None
 -- The value that an initialiser without braces gives an object with a cell of this kind; there is none where the
 -- initialiser is another, or the object has no such cell (C99 6.7.8).
 abbrev pub single : Setting → Option Kind → Initial → Option Value
-single σ (Some kind) (InitialValue e) = Some (value_in σ kind (constant_of (attr_of e)))
+single σ (Some kind) (InitialValue e) = Some (initial_value σ kind (constant_of (attr_of e)))
 single σ kind other = None
 
 -- The value with which the first cell of the shared object with this number begins, if there is one; a pointer to a
@@ -126,7 +126,7 @@ part_of b = b
 abbrev pub cells_from : Setting → ℕ → Kind → ℕ → List Constant → List (LocalPtr × Value)
 cells_from σ number kind offset [] = []
 cells_from σ number kind offset (c ∷ cs) =
-    (local.Private number (pos offset), value_in σ kind c) ∷ cells_from σ number kind (offset + kind_size kind) cs
+    (local.Private number (pos offset), initial_value σ kind c) ∷ cells_from σ number kind (offset + kind_size kind) cs
 
 -- The initial values that these constants give cells of this kind, one after the other in a private object from its
 -- beginning on; none where the parts of the object are no scalars.

@@ -29,7 +29,7 @@ use Rattle.upc_values.specs.declared.scalar.Value.TheVariants as value
 use Rattle.block_layout.specs.Cells.{sharable}
 use Rattle.typed_tree.specs.Elements.{element_shape}
 use Rattle.typed_tree.specs.Objects.{bytes_in, lies, placed_from}
-use Rattle.typed_tree.specs.Initials.{Setting, scalar_kind, single, at_start, shared_from, value_in}
+use Rattle.typed_tree.specs.Initials.{Setting, scalar_kind, single, at_start, shared_from, initial_value}
 use Rattle.typed_tree_opening.proofs.Sound.{IsListed}
 use Rattle.typed_tree_opening.proofs.Lying.{placed_at}
 use Rattle.typed_tree_opening.proofs.Worth.{IsWorth, is_scalar, value_worth}
@@ -206,7 +206,7 @@ first_cell s t kind h p =
 -- ---- values that fit, and are known
 
 module _ (P : Loc × Scalar → Type 0) (σ : Setting) (n : ℕ) where
-  value_start : (kind : Kind) (c : Constant) (v : Value) → value_in σ kind c ≡ v →
+  value_start : (kind : Kind) (c : Constant) (v : Value) → initial_value σ kind c ≡ v →
       ((w : Scalar) → IsWorth σ kind w → P (start_of n, w)) → Each P (at_start n (Some v))
   value_start kind c (value.Scalar w) e f = (f w (value_worth σ kind c w e), tt)
   value_start kind c (value.Local p) e f = tt
@@ -217,7 +217,7 @@ module _ (P : Loc × Scalar → Type 0) (σ : Setting) (n : ℕ) where
   single_start None given f = tt
   single_start (Some kind) NoInitial f = tt
   single_start (Some kind) (InitialValue e) f =
-      value_start kind (constant_of (attr_of e)) (value_in σ kind (constant_of (attr_of e))) refl
+      value_start kind (constant_of (attr_of e)) (initial_value σ kind (constant_of (attr_of e))) refl
       (λ w h. f kind w refl h)
   single_start (Some kind) (InitialList es) f = tt
 

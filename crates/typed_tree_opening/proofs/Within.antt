@@ -26,7 +26,7 @@ use Rattle.typed_tree.specs.Tree.{DeclaredObject, Initial, NoInitial, InitialVal
 use Rattle.upc_values.specs.declared.scalar.Value.{Value}
 use Rattle.upc_values.specs.declared.scalar.Value.TheVariants as value
 use Rattle.typed_tree.specs.Initials.{Setting, scalar_kind, constants_in, part_of, cells_from, cells_in}
-use Rattle.typed_tree.specs.Initials.{private_from, value_in}
+use Rattle.typed_tree.specs.Initials.{private_from, initial_value}
 use Rattle.typed_tree.specs.layer.PrivateOpenings.{kind_in, private_cell, fits_cell, is_local, is_known}
 use Rattle.upc_values.specs.Shapes.{value_fits}
 use Rattle.typed_tree_opening.proofs.Starts.{each_grow, scalar_cells}
@@ -150,21 +150,21 @@ cell_at s b given kind j h k =
 module _ (P : LocalPtr × Value → Type 0) (σ : Setting) where
   each_cells : (n : ℕ) (kind : Kind) (offset : ℕ) (cs : List Constant) →
       ((j : ℕ) (c : Constant) → j < length cs →
-      P (local.Private n (pos (offset + j * kind_size kind)), value_in σ kind c)) →
+      P (local.Private n (pos (offset + j * kind_size kind)), initial_value σ kind c)) →
       Each P (cells_from σ n kind offset cs)
   each_cells n kind offset [] f = tt
   each_cells n kind offset (c ∷ cs) f =
       let z : offset + 0 * kind_size kind ≡ offset = omega arith in (
-        subst (λ o. P (local.Private n (pos o), value_in σ kind c)) z (f 0 c (omega arith)),
+        subst (λ o. P (local.Private n (pos o), initial_value σ kind c)) z (f 0 c (omega arith)),
         each_cells n kind (offset + kind_size kind) cs
             (λ j d h. let e : offset + suc j * kind_size kind
             ≡ offset + kind_size kind + j * kind_size kind = omega arith in
-            subst (λ o. P (local.Private n (pos o), value_in σ kind d)) e (f (suc j) d (omega (arith, h)))),
+            subst (λ o. P (local.Private n (pos o), initial_value σ kind d)) e (f (suc j) d (omega (arith, h)))),
       )
 
   each_in : (n : ℕ) (k : Option Kind) (cs : List Constant) →
       ((kind : Kind) (j : ℕ) (c : Constant) → k ≡ Some kind → j < length cs →
-      P (local.Private n (pos (0 + j * kind_size kind)), value_in σ kind c)) → Each P (cells_in σ n k cs)
+      P (local.Private n (pos (0 + j * kind_size kind)), initial_value σ kind c)) → Each P (cells_in σ n k cs)
   each_in n None cs f = tt
   each_in n (Some kind) cs f = each_cells n kind 0 cs (λ j c h. f kind j c refl h)
 
@@ -172,7 +172,7 @@ module _ (P : LocalPtr × Value → Type 0) (σ : Setting) where
       ((i : ℕ) (kind : Kind) (j : ℕ) (c : Constant) → i < length xs →
       scalar_kind σ.structs.targets (part_of (base_of (get_or xs i e).ctype)) ≡ Some kind →
       j < length (constants_in (base_of (get_or xs i e).ctype) (get_or xs i e).initial) →
-      P (local.Private (n + i) (pos (0 + j * kind_size kind)), value_in σ kind c)) →
+      P (local.Private (n + i) (pos (0 + j * kind_size kind)), initial_value σ kind c)) →
       Each P (private_from σ n xs)
   each_private n [] e f = tt
   each_private n (x ∷ xs) e f =
@@ -181,11 +181,11 @@ module _ (P : LocalPtr × Value → Type 0) (σ : Setting) where
       let z : n + 0 ≡ n = omega arith in
       each-append P (cells_in σ n k cs) (private_from σ (n + 1) xs)
       (each_in n k cs (λ kind j c h l. subst
-      (λ m. P (local.Private m (pos (0 + j * kind_size kind)), value_in σ kind c)) z
+      (λ m. P (local.Private m (pos (0 + j * kind_size kind)), initial_value σ kind c)) z
       (f 0 kind j c (omega arith) h l)))
       (each_private (n + 1) xs e
       (λ i kind j c h l m. let s : n + suc i ≡ n + 1 + i = omega arith in
-      subst (λ o. P (local.Private o (pos (0 + j * kind_size kind)), value_in σ kind c)) s
+      subst (λ o. P (local.Private o (pos (0 + j * kind_size kind)), initial_value σ kind c)) s
       (f (suc i) kind j c (omega (arith, h)) l m)))
 
 -- ---- each value fits its cell, and is known
@@ -199,7 +199,7 @@ slice_shapes s [] i e h = absurd (omega arith)
 slice_shapes s (x ∷ xs) zero e h = refl
 slice_shapes s (x ∷ xs) (suc i) e h = slice_shapes s xs i e (omega arith)
 
-its_value_fits : (σ : Setting) (kind : Kind) (c : Constant) (v : Value) → value_in σ kind c ≡ v → value_fits v kind ≡ true
+its_value_fits : (σ : Setting) (kind : Kind) (c : Constant) (v : Value) → initial_value σ kind c ≡ v → value_fits v kind ≡ true
 its_value_fits σ kind c (value.Scalar w) e = (value_worth σ kind c w e).fit
 its_value_fits σ kind c (value.Local p) e = (value_local σ kind c p e).fit
 
@@ -215,12 +215,12 @@ private_fit σ xs e =
     let shape : kind_in (slice_get (shapes_of σ.structs xs) i) offset ≡ Some kind =
     ap (λ (r : Option Shape). kind_in r offset) (slice_shapes σ.structs xs i e h)
     ∙ cell_at σ.structs (base_of x.ctype) x.initial kind j k l in
-    subst (λ n. fits_cell (value_in σ kind c) (kind_in (slice_get (shapes_of σ.structs xs) n) offset) ≡ true) z
-    (ap (fits_cell (value_in σ kind c)) shape ∙ its_value_fits σ kind c (value_in σ kind c) refl))
+    subst (λ n. fits_cell (initial_value σ kind c) (kind_in (slice_get (shapes_of σ.structs xs) n) offset) ≡ true) z
+    (ap (fits_cell (initial_value σ kind c)) shape ∙ its_value_fits σ kind c (initial_value σ kind c) refl))
 
 known_is : (σ : Setting) (o : Opening) (privates : ℕ) (kind : Kind) (c : Constant) (v : Value) → σ.privates
     ≡ privates → ((w : Scalar) → is_scalar σ w ≡ true → is_initial o w ≡ true) →
-    value_in σ kind c ≡ v → is_known o privates v ≡ true
+    initial_value σ kind c ≡ v → is_known o privates v ≡ true
 known_is σ o privates kind c (value.Scalar w) p f e = f w (value_worth σ kind c w e).known
 known_is σ o privates kind c (value.Local q) p f e = subst (λ n. is_local n q ≡ true) p (value_local σ kind c q e).known
 
@@ -229,7 +229,7 @@ pub private_known : (σ : Setting) (o : Opening) (privates : ℕ) (xs : List Dec
     Each (λ x. is_known o privates x.1 ≡ true) (private_from σ 0 xs)
 private_known σ o privates xs e p f =
     let P : LocalPtr × Value → Type 0 = λ x. is_known o privates x.1 ≡ true in
-    each_private P σ 0 xs e (λ i kind j c h k l. known_is σ o privates kind c (value_in σ kind c) p f refl)
+    each_private P σ 0 xs e (λ i kind j c h k l. known_is σ o privates kind c (initial_value σ kind c) p f refl)
 
 -- ---- at most one value for a cell
 
@@ -262,7 +262,7 @@ cells_once : (σ : Setting) (n : ℕ) (kind : Kind) (offset : ℕ) (cs : List Co
 cells_once σ n kind offset [] = tt
 cells_once σ n kind offset (c ∷ cs) =
     let some = kind_some kind in
-    let x : LocalPtr × Value = (local.Private n (pos offset), value_in σ kind c) in (
+    let x : LocalPtr × Value = (local.Private n (pos offset), initial_value σ kind c) in (
       each_grow (IsBehind n (offset + kind_size kind)) (Differ x)
           (λ y h e. let f : offset ≡ offset_in y.0 = ap offset_in e in omega (arith, h.1, f, some))
           (cells_from σ n kind (offset + kind_size kind) cs) (cells_behind σ n kind (offset + kind_size kind) cs),

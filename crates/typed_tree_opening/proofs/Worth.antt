@@ -31,7 +31,7 @@ use Rattle.typed_tree.specs.layer.Parts.{integer_in, object_of}
 use Rattle.upc_values.specs.declared.scalar.Value.{Value}
 use Rattle.upc_values.specs.declared.scalar.Value.TheVariants as value
 use Rattle.typed_tree.specs.Initials.{Setting, fits, numbered, pointer_into, shared_pointer_in}
-use Rattle.typed_tree.specs.Initials.{local_pointer_in, value_in}
+use Rattle.typed_tree.specs.Initials.{local_pointer_in, initial_value}
 use Rattle.block_layout.specs.declared.place.LocalPtr.{LocalPtr}
 use Rattle.block_layout.specs.declared.place.LocalPtr.TheVariants as local
 use Rattle.typed_tree.specs.layer.PrivateOpenings.{is_local}
@@ -173,7 +173,7 @@ int_worth σ kind c v p f e =
     subst (IsWorth σ kind) (same_scalar (scalar.Int (integer_in kind c)) v e)
     (record { sharable = p; fit = f ∙ integer_fits kind c; known = refl })
 
-pub value_worth : (σ : Setting) (kind : Kind) (c : Constant) (v : Scalar) → value_in σ kind c ≡ value.Scalar v →
+pub value_worth : (σ : Setting) (kind : Kind) (c : Constant) (v : Scalar) → initial_value σ kind c ≡ value.Scalar v →
     IsWorth σ kind v
 value_worth σ Char c v e = int_worth σ Char c v refl refl e
 value_worth σ UChar c v e = int_worth σ UChar c v refl refl e
@@ -215,7 +215,7 @@ abbrev pointer_of : Value → LocalPtr → LocalPtr
 pointer_of (value.Local p) d = p
 pointer_of (value.Scalar v) d = d
 
-pub value_local : (σ : Setting) (kind : Kind) (c : Constant) (p : LocalPtr) → value_in σ kind c
+pub value_local : (σ : Setting) (kind : Kind) (c : Constant) (p : LocalPtr) → initial_value σ kind c
     ≡ value.Local p → IsLocal σ kind p
 value_local σ (Private n) c p e =
     subst (IsLocal σ (Private n)) (ap (λ x. pointer_of x p) e) (record { fit = refl; known = pointer_local σ c })

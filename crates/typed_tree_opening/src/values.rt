@@ -113,7 +113,7 @@ fn local_pointer_in(setting: &Setting<'_>, constant: Constant) -> LocalPtr
 
 /// What a constant is in an object of this kind.
 pub(crate) fn value_in(setting: &Setting<'_>, kind: Kind, constant: Constant) -> Value
-    ensures { result ≡ pure.value_in (view_setting setting.now) kind constant }
+    ensures { result ≡ pure.initial_value (view_setting setting.now) kind constant }
 {
     match kind {
         Kind::Shared(_, block) => {

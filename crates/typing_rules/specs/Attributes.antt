@@ -12,7 +12,8 @@ use Rattle.upc_types.specs.declared.ctype.Access.{Access}
 use Rattle.upc_types.specs.Types.{CType, Qualified, Base, Array, Pointer, base_of, block_of, Member, Structs}
 use Rattle.upc_types.specs.Types.{members_of}
 use Rattle.upc_types.specs.Layout.{size, member_offset}
-use Rattle.upc_types.specs.Arithmetic.{promoted, usual}
+use Rattle.upc_types.specs.Arithmetic.{usual}
+use Rattle.integers.specs.Integers.{promoted}
 use Rattle.typing_rules.specs.declared.setting.Home.{Home}
 use Rattle.typing_rules.specs.declared.setting.Home.TheVariants as home
 use Rattle.typing_rules.specs.declared.setting.SizeOperator.{SizeOperator}

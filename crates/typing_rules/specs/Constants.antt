@@ -9,9 +9,9 @@ use Rattle.block_layout.specs.Pointers.{moved}
 use Rattle.integers.specs.declared.operator.BinOp.{BinOp}
 use Rattle.integers.specs.declared.operator.BinOp.TheVariants.{ShiftLeft, ShiftRight}
 use Rattle.integers.specs.declared.operator.UnOp.{UnOp}
-use Rattle.integers.specs.Integers.{converted}
+use Rattle.integers.specs.Integers.{converted, promoted}
 use Rattle.integers.specs.Operators.{binary_of, unary_of, truth}
-use Rattle.upc_types.specs.Arithmetic.{promoted, usual}
+use Rattle.upc_types.specs.Arithmetic.{usual}
 use Rattle.typing_rules.specs.declared.attribute.Static.{Static}
 use Rattle.typing_rules.specs.declared.attribute.Static.TheVariants.{Private, Shared}
 use Rattle.typing_rules.specs.declared.attribute.Element.{Element}
@@ -42,9 +42,9 @@ is_undefined Undefined = true
 is_undefined c = false
 
 -- The integer constant that an operator gives; its value is undefined where the operator has no result (C99 6.5).
-abbrev pub valued : Result ℤ ℕ → Constant
-valued (Ok v) = Known v
-valued (Err code) = Undefined
+abbrev pub known_value : Result ℤ ℕ → Constant
+known_value (Ok v) = Known v
+known_value (Err code) = Undefined
 
 -- An operator on one integer constant: its value is undefined where that of the operand is, and on anything else it
 -- gives no constant (C99 6.6).
@@ -78,11 +78,11 @@ right_kind op a b = usual a b
 abbrev pub binary_constant : BinOp → Kind → Kind → Constant → Constant → Constant
 binary_constant op a b x y =
     let kind = working_kind op a b in
-    on_both (λ v w. valued (binary_of op kind (converted kind v) (converted (right_kind op a b) w))) x y
+    on_both (λ v w. known_value (binary_of op kind (converted kind v) (converted (right_kind op a b) w))) x y
 
 -- A unary operator on a constant of this kind (C99 6.5.3.3).
 abbrev pub unary_constant : UnOp → Kind → Constant → Constant
-unary_constant op a x = on_known (λ v. valued (unary_of op (promoted a) (converted (promoted a) v))) x
+unary_constant op a x = on_known (λ v. known_value (unary_of op (promoted a) (converted (promoted a) v))) x
 
 -- A constant, converted to an integer kind (C99 6.3.1.3).
 abbrev pub cast_constant : Kind → Constant → Constant

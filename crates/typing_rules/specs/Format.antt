@@ -4,7 +4,7 @@ use Rattle.std.specs.Prelude.{Option, Some, None}
 use Rattle.block_layout.specs.declared.kind.Kind.{Kind}
 use Rattle.block_layout.specs.declared.kind.Kind.TheVariants as kinds
 use Rattle.upc_types.specs.Types.{Base}
-use Rattle.upc_types.specs.Arithmetic.{promoted}
+use Rattle.integers.specs.Integers.{promoted}
 use Rattle.typing_rules.specs.declared.format.Awaits.{Awaits}
 use Rattle.typing_rules.specs.declared.format.Awaits.TheVariants.{Anything, AfterPercent, AfterZero, AfterDigit}
 use Rattle.typing_rules.specs.declared.format.Awaits.TheVariants.{AfterDigits, AfterL}

@@ -11,12 +11,11 @@ use Rattle.integers.specs.declared.operator.BinOp.TheVariants.{Add, Subtract, Le
 use Rattle.integers.specs.declared.operator.BinOp.TheVariants.{GreaterEqual, Equal, NotEqual}
 use Rattle.integers.specs.declared.operator.UnOp.{UnOp}
 use Rattle.integers.specs.declared.operator.UnOp.TheVariants.{Not}
-use Rattle.integers.specs.Integers.{converted}
+use Rattle.integers.specs.Integers.{converted, promoted}
 use Rattle.upc_types.specs.Types as types
 use Rattle.upc_types.specs.Types.{CType, Base, Array, base_of, is_constant, Structs, members_of}
 use Rattle.upc_types.specs.Layout.{is_complete, size, base_within, most_bytes, holds_private}
 use Rattle.upc_types.specs.Same.{same_type, is_lock_object}
-use Rattle.upc_types.specs.Arithmetic.{promoted}
 use Rattle.upc_types.specs.Conversions.{is_integer, assignable, castable, takes_allocation, to_shared_void}
 use Rattle.upc_types.specs.Conversions.{to_void_pointer}
 use Rattle.typing_rules.specs.declared.setting.SizeOperator.{SizeOperator}

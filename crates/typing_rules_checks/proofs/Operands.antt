@@ -10,9 +10,8 @@ use Rattle.integers.specs.declared.operator.BinOp.TheVariants.{Multiply, Divide,
 use Rattle.integers.specs.declared.operator.BinOp.TheVariants.{ShiftRight, Less, Greater, LessEqual}
 use Rattle.integers.specs.declared.operator.BinOp.TheVariants.{GreaterEqual, Equal, NotEqual, BitAnd, BitXor}
 use Rattle.integers.specs.declared.operator.BinOp.TheVariants.{BitOr}
-use Rattle.integers.specs.Integers.{InKind}
+use Rattle.integers.specs.Integers.{InKind, promoted}
 use Rattle.integers.specs.Operators.{RightFits}
-use Rattle.upc_types.specs.Arithmetic.{promoted}
 use Rattle.typing_rules.specs.Constants.{working_kind, right_kind, IsKindValue}
 
 -- A value of a kind may be a shift's count.

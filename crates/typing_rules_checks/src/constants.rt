@@ -1,9 +1,8 @@
 //! The values of constant expressions (C99 6.6).
 
 ghost use Rattle.std.specs.Prelude.{◌≡◌, IfOk};
-ghost use Rattle.integers.specs.Integers.{IsInteger, IsPromoted, converted};
+ghost use Rattle.integers.specs.Integers.{IsInteger, IsPromoted, converted, promoted};
 ghost use Rattle.integers.specs.Operators.{binary_of, unary_of};
-ghost use Rattle.upc_types.specs.Arithmetic as arithmetic;
 ghost use Rattle.typing_rules.specs.Constants as pure;
 ghost use Rattle.typing_rules.specs.Constants.{IsKindValue, IsWithin};
 
@@ -27,7 +26,7 @@ fn right_kind(op: BinOp, a: Kind, b: Kind) -> Kind
 
 fn valued(v: Result<i128, u8>) -> Constant
     requires { IfOk v IsKindValue }
-    ensures value { result ≡ pure.valued v }
+    ensures value { result ≡ pure.known_value v }
     ensures within { IsWithin result }
 {
     match v {
@@ -40,7 +39,7 @@ fn binary_known(op: BinOp, a: Kind, b: Kind, v: i128, w: i128) -> Constant
     requires left { IsInteger a }
     requires right { IsInteger b }
     ensures value { result
-        ≡ pure.valued (binary_of op (pure.working_kind op a b)
+        ≡ pure.known_value (binary_of op (pure.working_kind op a b)
         (converted (pure.working_kind op a b) v) (converted (pure.right_kind op a b) w)) }
     ensures within { IsWithin result }
 {
@@ -68,7 +67,7 @@ pub fn binary_constant(op: BinOp, a: Kind, b: Kind, x: Constant, y: Constant) ->
 
 fn unary_known(op: UnOp, a: Kind, v: i128) -> Constant
     requires { IsInteger a }
-    ensures value { result ≡ pure.valued (unary_of op (arithmetic.promoted a) (converted (arithmetic.promoted a) v)) }
+    ensures value { result ≡ pure.known_value (unary_of op (promoted a) (converted (promoted a) v)) }
     ensures within { IsWithin result }
 {
     let kind = promoted(a);

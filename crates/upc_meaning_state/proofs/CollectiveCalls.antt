@@ -13,12 +13,12 @@ use Rattle.upc_values.specs.Calls.{call_of}
 use Rattle.upc_values.specs.Expansion.{Expansion, Gives, Fails, Reads, Asks, Loads, Stores}
 use Rattle.upc_values.specs.Expansions.{collective}
 use Rattle.upc_values.specs.Scalars.{zero}
-use Rattle.upc_values.specs.LibraryCalls.{library_call, valued}
+use Rattle.upc_values.specs.LibraryCalls.{library_call, gives_zero}
 use Rattle.thread_steps.specs.States.{Thread, State, Res, Val, Over, bind, give, skip, choose}
 use Rattle.thread_steps.specs.Values.{number}
 use Rattle.thread_steps.specs.Actions.{ask, answered, meet, exit}
-use Rattle.thread_steps.specs.Accesses.{run}
-use Rattle.thread_steps.specs.Library.{library, called, formed_call, is_formed, is_call}
+use Rattle.thread_steps.specs.Accesses.{library_steps}
+use Rattle.thread_steps.specs.Library.{library, called_library, formed_call, is_formed, is_call}
 use Rattle.thread_steps.specs.layer.Parts.{first_number, private_shapes, answered_from}
 use Rattle.thread_values.specs.layer.Collectives.{collective_number, scalars_met}
 use Rattle.thread_values.proofs.CollectiveCalls.{collective_no_exit, collective_meets, collective_formed, collective_means}
@@ -102,7 +102,7 @@ module _ (τ : Thread) (at : Place) (σ : State) where
   takes_so a k (step.Ends end) q came = tt
 
   pub ends_so : (x : Expansion (Unit {0})) → together.IsWish x wish.Finished
-      → expanded_to τ at (valued x) σ ≡ Val (value.Scalar zero) σ
+      → expanded_to τ at (gives_zero x) σ ≡ Val (value.Scalar zero) σ
   ends_so x h = finishes τ at σ x (wish_ends x h)
 
 -- ---- the arguments
@@ -121,26 +121,26 @@ known_call calls.Other h = h
 module _ (τ : Thread) (at : Place) (σ : State) (c : LibraryCall) (n shape : ℕ) (args : List Value) where
   called_so : collective_number c ≡ Some n → is_formed τ.shapes c shape args ≡ true
       → library τ c shape at args σ
-      ≡ met_then true τ at (valued (collective τ.threads τ.shapes τ.number n (scalars_met c args))) σ
+      ≡ met_then true τ at (gives_zero (collective τ.threads τ.shapes τ.number n (scalars_met c args))) σ
   unfolding library
   called_so h f =
       ap (λ b. choose b (exit τ (first_number args)) (formed_call τ c shape at args) σ) (collective_no_exit c n h)
-      ∙ ap (λ b. choose b (called τ c shape at args) (give (number (pos 0))) σ) f
+      ∙ ap (λ b. choose b (called_library τ c shape at args) (give (number (pos 0))) σ) f
       ∙ ap (λ b. bind (choose b (meet τ at) skip σ)
-      (λ _ υ. bind (run τ at (library_call τ.threads τ.shapes τ.number (private_shapes υ) c shape args) υ)
+      (λ _ υ. bind (library_steps τ at (library_call τ.threads τ.shapes τ.number (private_shapes υ) c shape args) υ)
       (λ v. give (value.Scalar v)))) (collective_meets c n h)
       ∙ then_same (meet τ at σ)
-      (λ _ υ. bind (run τ at (library_call τ.threads τ.shapes τ.number (private_shapes υ) c shape args) υ)
+      (λ _ υ. bind (library_steps τ at (library_call τ.threads τ.shapes τ.number (private_shapes υ) c shape args) υ)
       (λ v. give (value.Scalar v)))
-      (λ _. expanded_to τ at (valued (collective τ.threads τ.shapes τ.number n (scalars_met c args))))
-      (λ _ υ. ap (λ x. bind (run τ at x υ) (λ v. give (value.Scalar v)))
+      (λ _. expanded_to τ at (gives_zero (collective τ.threads τ.shapes τ.number n (scalars_met c args))))
+      (λ _ υ. ap (λ x. bind (library_steps τ at x υ) (λ v. give (value.Scalar v)))
       (collective_means τ.threads τ.shapes τ.number (private_shapes υ) shape args c n h))
 
   pub meets_so : (met : List Scalar) → collective_number c ≡ Some n → met ≡ scalars_met c args
       → copies_or_reduces (call_of n met) ≡ true
       → library τ c shape at args σ
-      ≡ met_then true τ at (valued (collective τ.threads τ.shapes τ.number n met)) σ
+      ≡ met_then true τ at (gives_zero (collective τ.threads τ.shapes τ.number n met)) σ
   meets_so met h e f =
       called_so h (collective_formed τ.shapes shape args c n h
       (known_call (call_of n (scalars_met c args)) (subst (λ (l : List Scalar). copies_or_reduces (call_of n l) ≡ true) e f)))
-      ∙ ap (λ l. met_then true τ at (valued (collective τ.threads τ.shapes τ.number n l)) σ) (sym e)
+      ∙ ap (λ l. met_then true τ at (gives_zero (collective τ.threads τ.shapes τ.number n l)) σ) (sym e)

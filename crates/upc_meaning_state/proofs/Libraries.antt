@@ -13,7 +13,7 @@ use Rattle.upc_values.specs.declared.library.LibraryCall.{LibraryCall}
 use Rattle.upc_values.specs.LibraryCalls.{library_call, meet_number, asks, given_by}
 use Rattle.thread_steps.specs.States.{Thread, State, Val, Over, bind, give, valued}
 use Rattle.thread_steps.specs.Actions.{ask}
-use Rattle.thread_steps.specs.Accesses.{run, expanded}
+use Rattle.thread_steps.specs.Accesses.{library_steps, expanded}
 use Rattle.thread_steps.specs.Library.{library, is_formed}
 use Rattle.thread_values.specs.declared.library.LibraryStep.{LibraryStep}
 use Rattle.thread_values.specs.layer.Results.{given_at_once}
@@ -27,12 +27,12 @@ use Rattle.upc_meaning_state.specs.layer.Libraries.{expanded_to, met_then}
 module _ (τ : Thread) (at : Place) (a : Action) (σ υ : State) where
   pub asked : (r : Reply) (res : Result Value ℕ) → ask τ None a σ ≡ Val r υ → Some res ≡ given_at_once (given_by r)
       → expanded_to τ at (asks a) σ ≡ valued at res υ
-  unfolding run
+  unfolding library_steps
   asked r res h e =
       ap (λ x. bind (bind x (λ y. expanded τ at (given_by y))) (λ v. give (value.Scalar v))) h ∙ gives τ at υ r res e
 
   pub asked_ends : (over : ToldEnd) → ask τ None a σ ≡ Over over υ → expanded_to τ at (asks a) σ ≡ Over over υ
-  unfolding run
+  unfolding library_steps
   asked_ends over h =
       ap (λ x. bind (bind x (λ y. expanded τ at (given_by y))) (λ v. give (value.Scalar v))) h
 

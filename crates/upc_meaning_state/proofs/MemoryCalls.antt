@@ -7,7 +7,7 @@ use Rattle.upc_values.specs.declared.scalar.Scalar.{Scalar}
 use Rattle.upc_values.specs.declared.scalar.Value.{Value}
 use Rattle.upc_values.specs.declared.library.LibraryCall.{LibraryCall}
 use Rattle.upc_values.specs.Copying as said
-use Rattle.upc_values.specs.LibraryCalls.{valued}
+use Rattle.upc_values.specs.LibraryCalls.{gives_zero}
 use Rattle.thread_steps.specs.States.{Thread, State}
 use Rattle.thread_steps.specs.Library.{library}
 use Rattle.thread_steps.specs.layer.Parts.{private_shapes}
@@ -36,9 +36,9 @@ unfinished_left l h = left_by l.value l.dst l.src l.cells h
 module _ (τ : Thread) (at : Place) (σ : State) where
   pub asks_so : (c : LibraryCall) (shape : ℕ) (args : List Value) (o : Option Shape) (s : CopySpec) → copies c ≡ true
       → s ≡ spec_of c args → o ≡ private_of c s (private_shapes σ)
-      → library τ c shape at args σ ≡ expanded_to τ at (valued (expansion τ.threads τ.shapes o s)) σ
+      → library τ c shape at args σ ≡ expanded_to τ at (gives_zero (expansion τ.threads τ.shapes o s)) σ
   asks_so c shape args o s h e f =
       copied τ at σ c shape args h
-      ∙ ap (λ x. expanded_to τ at (valued x) σ)
+      ∙ ap (λ x. expanded_to τ at (gives_zero x) σ)
       (sym (ap (λ o. expansion τ.threads τ.shapes o s) f
       ∙ ap (λ s. expansion τ.threads τ.shapes (private_of c s (private_shapes σ)) s) e))

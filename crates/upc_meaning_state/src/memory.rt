@@ -6,7 +6,7 @@ ghost use Rattle.upc_library.specs.layer.Wishes.{IsWish, is_refusal};
 ghost use Rattle.upc_library.specs.declared.copying.CopyWish.TheVariants as wishes;
 ghost use Rattle.thread_steps.specs.Library as pure;
 ghost use Rattle.thread_values.specs.layer.Copies.{copies};
-ghost use Rattle.upc_values.specs.LibraryCalls.{valued};
+ghost use Rattle.upc_values.specs.LibraryCalls.{gives_zero};
 ghost use Rattle.upc_meaning_state.specs.code.Walking.{Answers, IsAnswered, IsAnsweredOrOver, IsUnfinished};
 ghost use Rattle.upc_meaning_state.specs.layer.Came.{Came, state_seen};
 ghost use Rattle.upc_meaning_state.specs.layer.Libraries.{expanded_to};
@@ -132,7 +132,7 @@ impl<'r> Progress<'r> {
         place: Place,
         mut call: Copying,
     ) -> Result<Step<Value>, OutOfMemory>
-        ensures { IfOk result (λ s. Came (expanded_to (thread_seen runner.entry) place (valued (rest call))
+        ensures { IfOk result (λ s. Came (expanded_to (thread_seen runner.entry) place (gives_zero (rest call))
             (state_seen self.old)) s self.new) }
     {
         loop {

@@ -3,7 +3,7 @@
 ghost use Rattle.std.specs.Prelude.{◌≡◌, IfOk, IfSome, Some, true};
 ghost use Rattle.collectives.specs.layer.Walks.{rest};
 ghost use Rattle.upc_values.specs.Expansions.{collective};
-ghost use Rattle.upc_values.specs.LibraryCalls.{valued};
+ghost use Rattle.upc_values.specs.LibraryCalls.{gives_zero};
 ghost use Rattle.thread_steps.specs.Library as pure;
 ghost use Rattle.thread_values.specs.layer.Collectives.{collective_number};
 ghost use Rattle.upc_meaning_state.specs.code.Walking.{IsAnsweredOrOver, IsTaken};
@@ -48,7 +48,7 @@ impl<'r> Progress<'r> {
         call: &mut Collective,
     ) -> Result<Step<Value>, OutOfMemory>
         ensures { IfOk result (λ s. Came (expanded_to (thread_seen runner.entry) place
-            (valued (rest runner.entry.shapes.now call.old)) (state_seen self.old)) s self.new) }
+            (gives_zero (rest runner.entry.shapes.now call.old)) (state_seen self.old)) s self.new) }
     {
         loop {
             match self.answer_together(runner, place, call)? {
@@ -73,7 +73,7 @@ impl<'r> Progress<'r> {
     ) -> Result<Step<Value>, OutOfMemory>
         requires { Fits runner }
         ensures { IfOk result (λ s. Came (expanded_to (thread_seen runner.entry) place
-            (valued (collective runner.entry.threads runner.entry.shapes.now runner.entry.number number met.now))
+            (gives_zero (collective runner.entry.threads runner.entry.shapes.now runner.entry.number number met.now))
             (state_seen self.old)) s self.new) }
     {
         match Collective::make(runner.alloc, number, met, runner.number, runner.threads) {
@@ -93,7 +93,7 @@ impl<'r> Progress<'r> {
     ) -> Result<Step<Value>, OutOfMemory>
         requires { Fits runner }
         ensures { IfOk result (λ s. Came (met_then true (thread_seen runner.entry) place
-            (valued (collective runner.entry.threads runner.entry.shapes.now runner.entry.number number met.now))
+            (gives_zero (collective runner.entry.threads runner.entry.shapes.now runner.entry.number number met.now))
             (state_seen self.old)) s self.new) }
     {
         match self.meet(runner, place) {

@@ -11,7 +11,7 @@ use Rattle.upc_values.specs.declared.record.Item.{Item}
 use Rattle.upc_values.specs.declared.record.Item.TheVariants.{Did, Stall}
 use Rattle.upc_values.specs.declared.journal.Entry.{Entry}
 use Rattle.upc_values.specs.Openings.{Opening}
-use Rattle.upc_values.specs.Drain.{Commit, commit_of, entries_in, Walk, emptied, oldest_out, with_room, passed, put, looked_up, stepped, walked, pending_value, entry_of, entries_of}
+use Rattle.upc_values.specs.Drain.{Commit, commit_of, entries_in, Walk, emptied, oldest_out, with_room, passed, put_pending, looked_up, stepped, walked, pending_value, entry_of, entries_of}
 use Rattle.upc_values.specs.Outcomes.{wanted}
 use Rattle.upc_values.specs.Records.{replies_of, is_beat, is_beat_item}
 use Rattle.upc_values.specs.Strands.{next_action}
@@ -60,9 +60,9 @@ room-emits w h = cond_both (nat_lt (length w.pending) 64) w (oldest_out w.pendin
       | x ∷ xs ↦ λ s. (x.entry ∷ [], both-in w.emitted (x ∷ []), (s.0, tt))
     ] in go w.pending h)
 
-put-emits : (l : Loc) (e : Entry) (f : Option Scalar) (w : Walk) → Quiet (entries_in w.pending) → Emits w (put l e f w) false
+put-emits : (l : Loc) (e : Entry) (f : Option Scalar) (w : Walk) → Quiet (entries_in w.pending) → Emits w (put_pending l e f w) false
 put-emits l e None w h = room-emits w h
-put-emits l e (Some v) w h = emits-none w (put l e (Some v) w) refl
+put-emits l e (Some v) w h = emits-none w (put_pending l e (Some v) w) refl
 
 looked-emits : (t i : ℕ) (l : Loc) (r : Reply) (f : Option Scalar) (w : Walk) → Emits w (looked_up l (entry_of t i (Read l false) r) f w) false
 looked-emits t i l r None w =

@@ -12,7 +12,7 @@ use Rattle.upc_values.specs.declared.record.Item.{Item}
 use Rattle.upc_values.specs.declared.record.Item.TheVariants.{Did, Stall}
 use Rattle.upc_values.specs.declared.journal.Entry.{Entry}
 use Rattle.upc_values.specs.Lists.{Each}
-use Rattle.upc_values.specs.Drain.{Commit, commit_of, Walk, emptied, oldest_out, with_room, passed, put, looked_up, gone, stepped, walked, walked_from, start, pending_value, entry_of, drain}
+use Rattle.upc_values.specs.Drain.{Commit, commit_of, Walk, emptied, oldest_out, with_room, passed, put_pending, looked_up, gone, stepped, walked, walked_from, start, pending_value, entry_of, drain}
 use Rattle.upc_values.specs.Ends.{is_pause}
 use Rattle.upc_values.specs.Records.{last_item, last_from, is_stall}
 use Rattle.upc_values.specs.Strands.{may_wait, MayWait, first_is_stall, next_action, StallsStand}
@@ -80,9 +80,9 @@ room-longer w = cond_both (nat_lt (length w.pending) 64) w (oldest_out w.pending
     oldest [] = same-emitted w w refl
     oldest (c ∷ cs) = more-emitted w (oldest_out (c ∷ cs) w) (c ∷ []) refl
 
-put-longer : (l : Loc) (e : Entry) (f : Option Scalar) (w : Walk) → AtLeast w (put l e f w)
+put-longer : (l : Loc) (e : Entry) (f : Option Scalar) (w : Walk) → AtLeast w (put_pending l e f w)
 put-longer l e None w = room-longer w
-put-longer l e (Some v) w = same-emitted w (put l e (Some v) w) refl
+put-longer l e (Some v) w = same-emitted w (put_pending l e (Some v) w) refl
 
 looked-longer : (l : Loc) (e : Entry) (f : Option Scalar) (w : Walk) → AtLeast w (looked_up l e f w)
 looked-longer l e None w = more-emitted w (passed e w) (commit_of e ∷ []) refl

@@ -14,7 +14,7 @@ use Rattle.upc_values.specs.declared.action.Reply.TheVariants.{Done, Value}
 use Rattle.upc_values.specs.declared.journal.Entry.{Entry}
 use Rattle.upc_values.specs.Scalars.{same_loc}
 use Rattle.upc_values.specs.Records.{is_beat}
-use Rattle.upc_values.specs.Drain.{Commit, commit_of, entries_in, Walk, emptied, oldest_out, stored, pending_value, changed, combined, put, passed, looked_up, gone, last_written, entry_of, entries_of}
+use Rattle.upc_values.specs.Drain.{Commit, commit_of, entries_in, Walk, emptied, oldest_out, stored, pending_value, changed, combined, put_pending, passed, looked_up, gone, last_written, entry_of, entries_of}
 use Rattle.upc_values.specs.Openings.{Opening, IsOpening}
 use Rattle.upc_values.specs.History.{reply, IsLegal}
 use Rattle.upc_values.specs.Formed.{IsWellFormed, AreWellFormed, fits_after}
@@ -203,7 +203,7 @@ pub holds-combined : (o : Opening) (t n : ℕ) (l : Loc) (v : Scalar) (seen : Li
 holds-combined o t n l v seen ps qs w some is asked k =
     let q : Pending = record { index = n; loc = l; value = v } in
     let e : Entry = entry_of t n (Write false l v) Done in
-    let P : Option Scalar → Type 0 = λ f. is_some f ≡ true → Holds o t seen (replaced q ps) (n + 1) (put l e f w) in
+    let P : Option Scalar → Type 0 = λ f. is_some f ≡ true → Holds o t seen (replaced q ps) (n + 1) (put_pending l e f w) in
     let there : is_some (pending_value l w.pending) ≡ true =
     ap is_some (value-is t l ps w.pending k.inside) ∙ some-value (youngest l ps) ∙ some in
     let go : (f : Option Scalar) → P f = λ f. elim f as P [
@@ -230,7 +230,7 @@ holds-stored o t n l v seen ps qs w none full is asked k =
     let many2 : length (map (committed t) ps) ≡ length w.pending = ap length k.inside ∙ entries-many w.pending in
     let room : length ps ≤ 64 = k.room in
     let few : length w.pending < 64 = omega (arith, full) in
-    subst (λ f. Holds o t seen qs (n + 1) (put l e f w)) (sym (none-pending o t n l seen ps w none k))
+    subst (λ f. Holds o t seen qs (n + 1) (put_pending l e f w)) (sym (none-pending o t n l seen ps w none k))
     (subst (λ z. Holds o t seen qs (n + 1) (stored e z)) (sym (room-left w few)) (record {
       out = k.out;
       inside = ap (map (committed t)) (sym is) ∙ map-append (committed t) ps (p ∷ []) ∙ ap (λ z. z ++ e ∷ []) k.inside
@@ -274,7 +274,7 @@ holds-overflown o t n l v seen ps qs f w none full is asked k =
             formed = pending-grow o seen (committed t f ∷ []) qs formed.1;
           }
     ] in
-    subst (λ g. Holds o t (seen ++ committed t f ∷ []) qs (n + 1) (put l e g w)) (sym (none-pending o t n l seen ps w none k))
+    subst (λ g. Holds o t (seen ++ committed t f ∷ []) qs (n + 1) (put_pending l e g w)) (sym (none-pending o t n l seen ps w none k))
     (subst (λ z. Holds o t (seen ++ committed t f ∷ []) qs (n + 1) (stored e z)) (sym (room-made w all)) (go w.pending refl))
 
 -- a relaxed write where none leaves

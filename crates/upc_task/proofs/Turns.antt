@@ -14,7 +14,7 @@ use Rattle.upc_values.specs.declared.record.Item.{Item}
 use Rattle.upc_values.specs.declared.record.Item.TheVariants.{Did, Stall}
 use Rattle.upc_values.specs.declared.journal.Entry.{Entry}
 use Rattle.upc_values.specs.Lists.{Each}
-use Rattle.upc_values.specs.Drain.{Commit, commit_of, entries_in, Walk, start, emptied, oldest_out, with_room, passed, stored, pending_value, changed, combined, put, looked_up, gone, walked_from, walked, entry_of, entries_of}
+use Rattle.upc_values.specs.Drain.{Commit, commit_of, entries_in, Walk, start, emptied, oldest_out, with_room, passed, stored, pending_value, changed, combined, put_pending, looked_up, gone, walked_from, walked, entry_of, entries_of}
 use Rattle.upc_values.specs.Openings.{Opening}
 use Rattle.upc_values.specs.History.{is_notify, is_wait, notifies, waits}
 use Rattle.upc_values.specs.Records.{actions_of}
@@ -133,7 +133,7 @@ module _ (test : Action → Bool) (no_write : (s : Bool) (l : Loc) (v : Scalar) 
       cond_both (is_some (pending_value l cs)) (c ∷ changed l (combined e) cs) (combined e c ∷ cs)
       (λ z. Each IsPlain (entries_in z)) (λ _. (h.0, plain-changed l e cs p h.1)) (λ _. (p, h.1))
 
-  emits-put : (n : ℕ) (l : Loc) (e : Entry) (f : Option Scalar) (w : Walk) → IsPlain e → Emits n w → Emits n (put l e f w)
+  emits-put : (n : ℕ) (l : Loc) (e : Entry) (f : Option Scalar) (w : Walk) → IsPlain e → Emits n w → Emits n (put_pending l e f w)
   emits-put n l e None w p h = emits-stored n e (with_room w) p (emits-room n w h)
   emits-put n l e (Some v) w p h = (h.0, plain-changed l e w.pending p h.1)
 
@@ -158,7 +158,7 @@ module _ (test : Action → Bool) (no_write : (s : Bool) (l : Loc) (v : Scalar) 
   emits-gone n t i (Read l true) r w h = emits-passed n (entry_of t i (Read l true) r) (emptied w) (emits-emptied n w h)
   emits-gone n t i (Write false l v) r w h =
       let e : Entry = entry_of t i (Write false l v) r in
-      subst (λ m. Emits m (put l e (pending_value l w.pending) w)) (nothing-adds n (test (Write false l v)) (no_write false l v))
+      subst (λ m. Emits m (put_pending l e (pending_value l w.pending) w)) (nothing-adds n (test (Write false l v)) (no_write false l v))
       (emits-put n l e (pending_value l w.pending) w (no_write false l v) h)
   emits-gone n t i (Write true l v) r w h =
       emits-passed n (entry_of t i (Write true l v) r) (emptied w) (emits-emptied n w h)

@@ -1,24 +1,8 @@
 -- The kind of the result of integer operators (C99 6.3.1.1, 6.3.1.8).
-use Rattle.std.specs.Prelude.{ℕ, nat_lt, nat_le, if◌then◌else◌}
+use Rattle.std.specs.Prelude.{nat_lt, nat_le, if◌then◌else◌}
 use Rattle.block_layout.specs.declared.kind.Kind.{Kind}
-use Rattle.block_layout.specs.declared.kind.Kind.TheVariants.{Char, UChar, Short, UShort, Int, UInt, Long, ULong}
-use Rattle.integers.specs.Integers.{width, is_signed}
-
--- The conversion rank of an integer kind (C99 6.3.1.1), 0 of another.
-abbrev pub rank : Kind → ℕ
-rank Char = 1
-rank UChar = 1
-rank Short = 2
-rank UShort = 2
-rank Int = 3
-rank UInt = 3
-rank Long = 4
-rank ULong = 4
-rank kind = 0
-
--- The kind of an integer after promotion: int for each kind of lower rank, as int has all its values (C99 6.3.1.1).
-abbrev pub promoted : Kind → Kind
-promoted kind = if nat_lt (rank kind) (rank Int) then Int else kind
+use Rattle.block_layout.specs.declared.kind.Kind.TheVariants.{Int, UInt, Long, ULong}
+use Rattle.integers.specs.Integers.{width, is_signed, rank, promoted}
 
 -- The unsigned kind that has the same rank as a promoted kind (C99 6.3.1.1).
 abbrev pub unsigned_of : Kind → Kind

@@ -1,7 +1,7 @@
 //! The kind of the result of integer operators (C99 6.3.1.1, 6.3.1.8).
 
 ghost use Rattle.std.specs.Prelude.{◌≡◌};
-ghost use Rattle.integers.specs.Integers.{IsInteger, IsPromoted};
+ghost use Rattle.integers.specs.Integers.{promoted, IsInteger, IsPromoted};
 ghost use Rattle.upc_types.specs.Arithmetic as pure;
 
 use block_layout::Kind;
@@ -9,7 +9,7 @@ use block_layout::Kind;
 /// The kind that integer promotion gives (C99 6.3.1.1). Takes no memory.
 pub fn promoted(kind: Kind) -> Kind
     requires { IsInteger kind }
-    ensures value { result ≡ pure.promoted kind }
+    ensures value { result ≡ promoted kind }
     ensures promoted { IsPromoted result }
 {
     match kind {

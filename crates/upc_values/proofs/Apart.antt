@@ -10,7 +10,7 @@ use Rattle.upc_values.specs.declared.record.Item.{Item}
 use Rattle.upc_values.specs.declared.record.Item.TheVariants.{Did, Stall}
 use Rattle.upc_values.specs.declared.journal.Entry.{Entry}
 use Rattle.upc_values.specs.Scalars.{same_loc}
-use Rattle.upc_values.specs.Drain.{Commit, commit_of, entries_in, Walk, start, entry_of, oldest_out, with_room, stored, written, or_else, last_written, pending_value, changed, combined, put, looked_up, stepped, walked_from}
+use Rattle.upc_values.specs.Drain.{Commit, commit_of, entries_in, Walk, start, entry_of, oldest_out, with_room, stored, written, or_else, last_written, pending_value, changed, combined, put_pending, looked_up, stepped, walked_from}
 use Rattle.upc_values.proofs.Sameness.{same_loc-true, same_loc-itself}
 use Rattle.upc_values.specs.code.Apart.{writers, AreApart, PendingApart}
 use Rattle.upc_values.proofs.Drained.{read-entries}
@@ -96,7 +96,7 @@ apart-stored l v t n r w none h = λ k.
     ] in
     go (is_some (written k e.action)) refl
 
-apart-put : (l : Loc) (v : Scalar) (t n : ℕ) (r : Reply) (o : Option Scalar) (w : Walk) → pending_value l w.pending ≡ o → Apart w → Apart (put l (entry_of t n (Write false l v) r) o w)
+apart-put : (l : Loc) (v : Scalar) (t n : ℕ) (r : Reply) (o : Option Scalar) (w : Walk) → pending_value l w.pending ≡ o → Apart w → Apart (put_pending l (entry_of t n (Write false l v) r) o w)
 apart-put l v t n r None w q h = apart-stored l v t n r w q h
 apart-put l v t n r (Some u) w q h = λ k.
     let e : Entry = entry_of t n (Write false l v) r in

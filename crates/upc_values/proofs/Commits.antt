@@ -11,7 +11,7 @@ use Rattle.upc_values.specs.declared.record.Item.{Item}
 use Rattle.upc_values.specs.declared.record.Item.TheVariants.{Did, Stall}
 use Rattle.upc_values.specs.declared.journal.Entry.{Entry}
 use Rattle.upc_values.specs.Operations.{Place, Cell, Operation, accesses_of, accesses}
-use Rattle.upc_values.specs.Drain.{Commit, commit_of, Walk, start, emptied, oldest_out, with_room, passed, pending_value, changed, with_read, combined, put, looked_up, stepped, walked_from, drained, or_else, written, is_value, is_done, entry_of}
+use Rattle.upc_values.specs.Drain.{Commit, commit_of, Walk, start, emptied, oldest_out, with_room, passed, pending_value, changed, with_read, combined, put_pending, looked_up, stepped, walked_from, drained, or_else, written, is_value, is_done, entry_of}
 use Rattle.upc_values.specs.Lists.{Each}
 use Rattle.upc_values.specs.Scalars.{value_or}
 use Rattle.upc_values.specs.Consistent.{same_place, last_write, initial_at, ReadsLastFrom}
@@ -203,7 +203,7 @@ sound-looked_up l t n r (Some v) w e a s =
       pending = joined-settled l v t n r (and_parts w.agrees (is_value v r) a).1 w.pending s.pending e;
     }
 
-sound-put : (l : Loc) (v : Scalar) (t n : ℕ) (r : Reply) (o : Option Scalar) (w : Walk) → pending_value l w.pending ≡ o → (put l (entry_of t n (Write false l v) r) o w).agrees ≡ true → Sound w → Sound (put l (entry_of t n (Write false l v) r) o w)
+sound-put : (l : Loc) (v : Scalar) (t n : ℕ) (r : Reply) (o : Option Scalar) (w : Walk) → pending_value l w.pending ≡ o → (put_pending l (entry_of t n (Write false l v) r) o w).agrees ≡ true → Sound w → Sound (put_pending l (entry_of t n (Write false l v) r) o w)
 sound-put l v t n r None w e a s =
     let b = (and_parts (with_room w).agrees (is_done r) a).1 in
     let k = sound-with_room w s in
@@ -239,7 +239,7 @@ agrees-looked_up : (l : Loc) (e : Entry) (o : Option Scalar) (w : Walk) → (loo
 agrees-looked_up l e None w a = a
 agrees-looked_up l e (Some v) w a = (and_parts w.agrees (is_value v e.reply) a).0
 
-agrees-put : (l : Loc) (e : Entry) (o : Option Scalar) (w : Walk) → (put l e o w).agrees ≡ true → w.agrees ≡ true
+agrees-put : (l : Loc) (e : Entry) (o : Option Scalar) (w : Walk) → (put_pending l e o w).agrees ≡ true → w.agrees ≡ true
 agrees-put l e None w a = agrees-with_room w (and_parts (with_room w).agrees (is_done e.reply) a).0
 agrees-put l e (Some v) w a = (and_parts w.agrees (is_done e.reply) a).0
 

@@ -16,7 +16,7 @@ use Rattle.upc_values.specs.declared.journal.Journal.{Journal}
 use Rattle.upc_values.specs.Orders.{record_of, operations_at, placed, global_order, thread_order, is_shown, operations_of, IsOf, rank, name_of, StrictOrder, As_placed, As_written, Through}
 use Rattle.upc_values.specs.Operations.{Operation}
 use Rattle.upc_values.specs.Openings.{Opening, initial_of}
-use Rattle.upc_values.specs.History.{objects, reply, valued, IsLegalFrom, EachBelow}
+use Rattle.upc_values.specs.History.{objects, reply, value_reply, IsLegalFrom, EachBelow}
 use Rattle.upc_values.specs.Consistent.{FollowsBuffers, same_place, conflict, KeepsProgram, IsConsistent, AreConsistent}
 use Rattle.upc_values.specs.Lists.{Each, Has, Precedes, Pairwise}
 use Rattle.upc_values.proofs.Membership.{precedes-has, has-filter, filter-has, each-has, each-front, each-back, each-weaker, has-cases, pairs-weaker, pairs-at, pairs-from, precedes-total, Distinct, precedes-strict, precedes-trans, precedes-filter, filter-precedes, distinct-classes, filter-flat, flat-agree}
@@ -211,7 +211,7 @@ module _ (j : Journal) (f : FollowsBuffers j) where
       }
 
 -- a lawful reply gives a read its value, and a write Done
-read-answered : (o : Opening) (before rest : List Entry) (l : Loc) (r : Reply) (w i : Option Scalar) → last_written l before ≡ w → initial_of o (objects o before) l ≡ i → valued (or_else w i) ≡ Some r → r ≡ Value (value_or (last_written l before) (begins o (before ++ rest) l))
+read-answered : (o : Opening) (before rest : List Entry) (l : Loc) (r : Reply) (w i : Option Scalar) → last_written l before ≡ w → initial_of o (objects o before) l ≡ i → value_reply (or_else w i) ≡ Some r → r ≡ Value (value_or (last_written l before) (begins o (before ++ rest) l))
 read-answered o before rest l r (Some v) i e f h =
     let k : Value v ≡ r = cc in
     sym k ∙ ap (λ z. Value (value_or z (begins o (before ++ rest) l))) (sym e)

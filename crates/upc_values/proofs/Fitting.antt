@@ -31,7 +31,7 @@ use Rattle.upc_values.specs.layer.Basic.{is_basic, AreBasic}
 use Rattle.upc_values.specs.Drain.{written, or_else, last_written}
 use Rattle.block_layout.specs.Cells.{is_private}
 use Rattle.upc_values.specs.Openings.{Opening, IsOpening, IsDeclared, IsSharable, bytes_of, cell_of, is_named, given, blank_in, initial_of, is_initial}
-use Rattle.upc_values.specs.History.{each_thread, objects, valued, reply, waits, marks, agrees_with, all_notified}
+use Rattle.upc_values.specs.History.{each_thread, objects, value_reply, reply, waits, marks, agrees_with, all_notified}
 use Rattle.upc_values.specs.Formed.{is_known, is_pointer, is_read, fits, fits_after, IsWellFormed, AreWellFormedFrom, AreWellFormed}
 use Rattle.upc_values.proofs.Sameness.{same_loc-true}
 use Rattle.upc_values.proofs.Unmade.{basic-declared}
@@ -233,7 +233,7 @@ initial-held o l i =
 
 -- ---- replies
 
-valued-fits : (o : Opening) (k : Option Kind) (l : Loc) (s : Bool) (v : Option Scalar) (r : Reply) → IsOpening o → HeldIn o k v → valued v ≡ Some r → fits o.threads o.shapes k (act.Read l s) r ≡ true
+valued-fits : (o : Opening) (k : Option Kind) (l : Loc) (s : Bool) (v : Option Scalar) (r : Reply) → IsOpening o → HeldIn o k v → value_reply v ≡ Some r → fits o.threads o.shapes k (act.Read l s) r ≡ true
 unfolding HeldIn
 valued-fits o k l s (Some v) r i h e =
     let same : Value v ≡ r = cc in subst (λ z. fits o.threads o.shapes k (act.Read l s) z ≡ true) same (held-read o k v i h)
@@ -256,7 +256,7 @@ lawful-fits o before t (act.Read l s) r i b h c e =
     (valued-fits o (cell_of o o.declared l) l s (or_else (last_written l before) (initial_of o o.declared l)) r i
     (or_else-held o (cell_of o o.declared l) (last_written l before) (initial_of o o.declared l)
     (last_written-held o [] l before tt b h) (initial-held o l i))
-    (subst (λ z. valued (or_else (last_written l before) (initial_of o z l)) ≡ Some r) d e))
+    (subst (λ z. value_reply (or_else (last_written l before) (initial_of o z l)) ≡ Some r) d e))
 lawful-fits o before t (act.Wait m) r i b h c e =
     wait-fits o.threads o.shapes None m (all_notified o.threads (waits t before) before)
     (each_thread o.threads (λ u. agrees_with m (slice_get (marks u before) (waits t before)))) r e

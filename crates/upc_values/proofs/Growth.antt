@@ -14,7 +14,7 @@ use Rattle.upc_values.specs.declared.record.Item.TheVariants.{Did, Stall}
 use Rattle.upc_values.specs.declared.journal.Entry.{Entry}
 use Rattle.upc_values.specs.Scalars.{same_loc}
 use Rattle.upc_values.specs.Operations.{Cell, Operation, accesses_of, accesses}
-use Rattle.upc_values.specs.Drain.{Commit, commit_of, Walk, emptied, oldest_out, with_room, stored, passed, pending_value, changed, with_read, combined, put, looked_up, stepped, or_else, written, entry_of}
+use Rattle.upc_values.specs.Drain.{Commit, commit_of, Walk, emptied, oldest_out, with_room, stored, passed, pending_value, changed, with_read, combined, put_pending, looked_up, stepped, or_else, written, entry_of}
 use Rattle.upc_values.specs.Lists.{Each}
 use Rattle.upc_values.specs.Consistent.{same_place, conflict}
 use Rattle.upc_values.proofs.Sameness.{same_loc-true, same_loc-other}
@@ -244,13 +244,13 @@ grows-looked_up l t n r w p (Some v) h =
     let e = entry_of t n (Read l false) r in
     grows-changed l (with_read e) (accesses e) (λ c. refl) w p v h (relaxed-reads t n l r) (looked_up l e (Some v) w) refl
 
-grows-put : (l : Loc) (u : Scalar) (t n : ℕ) (r : Reply) (w : Walk) → Each IsPending w.pending → (o : Option Scalar) → pending_value l w.pending ≡ o → Grows (all_ops w) (accesses_of t n (Write false l u) r) (all_ops (put l (entry_of t n (Write false l u) r) o w))
+grows-put : (l : Loc) (u : Scalar) (t n : ℕ) (r : Reply) (w : Walk) → Each IsPending w.pending → (o : Option Scalar) → pending_value l w.pending ≡ o → Grows (all_ops w) (accesses_of t n (Write false l u) r) (all_ops (put_pending l (entry_of t n (Write false l u) r) o w))
 grows-put l u t n r w p None h =
     subst (λ z. Grows z (accesses_of t n (Write false l u) r) (all_ops (stored (entry_of t n (Write false l u) r) (with_room w))))
     (ops-with_room w) (grows-stored (entry_of t n (Write false l u) r) (with_room w))
 grows-put l u t n r w p (Some v) h =
     let e = entry_of t n (Write false l u) r in
-    grows-changed l (combined e) (accesses e) (λ c. refl) w p v h (relaxed-write t n l u r) (put l e (Some v) w) refl
+    grows-changed l (combined e) (accesses e) (λ c. refl) w p v h (relaxed-write t n l u r) (put_pending l e (Some v) w) refl
 
 -- the accesses of an item that is the next
 abbrev pub item_ops : ℕ → ℕ → Item → List Operation
@@ -287,7 +287,7 @@ pending-looked_up l t n r w p (Some v) h =
     let e = entry_of t n (Read l false) r in
     each-changed l (with_read e) IsPending IsPending (λ c q. q) (read-pending l e (relaxed-reads t n l r)) w.pending v h p
 
-pending-put : (l : Loc) (u : Scalar) (t n : ℕ) (r : Reply) (w : Walk) → Each IsPending w.pending → (o : Option Scalar) → pending_value l w.pending ≡ o → Each IsPending (put l (entry_of t n (Write false l u) r) o w).pending
+pending-put : (l : Loc) (u : Scalar) (t n : ℕ) (r : Reply) (w : Walk) → Each IsPending w.pending → (o : Option Scalar) → pending_value l w.pending ≡ o → Each IsPending (put_pending l (entry_of t n (Write false l u) r) o w).pending
 pending-put l u t n r w p None h =
     each-append IsPending (with_room w).pending (commit_of (entry_of t n (Write false l u) r) ∷ []) (pending-with_room w p)
     (record { loc = l; value = u; is = refl; here = relaxed-write t n l u r }, tt)

@@ -27,7 +27,7 @@ use Rattle.upc_values.specs.Shapes.{fits_cell}
 use Rattle.upc_values.specs.Calls.{Call, Allocates, Makes_lock, Frees, Frees_lock, Copies, Permutes, Reduces, Reduces_prefixes, Other, call_of}
 use Rattle.upc_values.specs.Drain.{entry_of, written, or_else, last_written}
 use Rattle.upc_values.specs.Openings.{Opening, IsOpening, bytes_of, cell_of, is_named, given, blank_in, initial_of, is_initial}
-use Rattle.upc_values.specs.History.{picked, is_meet_of, meets, Lead, leader_from, leader, led, makes, object_of, objects, made, alloc_reply, makes_lock, locks, held, valued, lock_reply, unlock_reply, holder, is_freed, is_given_up, is_released, allocated, free_reply, led_reply, meet_reply, same_call, notifies, each_thread, agrees_with, marks, all_notified, wait_reply, waits, reply, IsLegalFrom, IsLegal}
+use Rattle.upc_values.specs.History.{picked, is_meet_of, meets, Lead, leader_from, leader, led, makes, object_of, objects, made, alloc_reply, makes_lock, locks, held, value_reply, lock_reply, unlock_reply, holder, is_freed, is_given_up, is_released, allocated, free_reply, led_reply, meet_reply, same_call, notifies, each_thread, agrees_with, marks, all_notified, wait_reply, waits, reply, IsLegalFrom, IsLegal}
 use Rattle.upc_values.specs.Formed.{knows, is_known, is_home, may_alloc, IsWellFormed, AreWellFormedFrom, AreWellFormed}
 use Rattle.upc_values.specs.layer.Known.{gives_known, AreKnown}
 use Rattle.upc_values.proofs.Beginnings.{picked-append}
@@ -272,7 +272,7 @@ meet-known o before t i c args some all (Some w) q =
     (leader-has (λ e. gives_known o before e.reply ≡ true) (length (meets t before)) [] before w all q))
     (λ _. refl)
 
-valued-known : (o : Opening) (es more : List Entry) (v : Option Scalar) (r : Reply) → KnownIn o es v → valued v ≡ Some r → gives_known o (es ++ more) r ≡ true
+valued-known : (o : Opening) (es more : List Entry) (v : Option Scalar) (r : Reply) → KnownIn o es v → value_reply v ≡ Some r → gives_known o (es ++ more) r ≡ true
 valued-known o es more (Some v) r h e =
     let same : Value v ≡ r = cc in subst (λ z. gives_known o (es ++ more) z ≡ true) same (known-stays o es more v h)
 valued-known o es more None r h e = absurd cc

@@ -11,7 +11,7 @@ use Rattle.upc_values.specs.declared.journal.Entry.{Entry}
 use Rattle.upc_values.proofs.Lists.{each-push}
 use Rattle.upc_values.specs.Drain.{entry_of, or_else, last_written}
 use Rattle.upc_values.specs.Openings.{Opening, cell_of, blank_in, given, initial_of}
-use Rattle.upc_values.specs.History.{objects, held, valued, reply, IsLegalFrom, IsLegal, EachBelow}
+use Rattle.upc_values.specs.History.{objects, held, value_reply, reply, IsLegalFrom, IsLegal, EachBelow}
 use Rattle.upc_values.specs.Formed.{IsWellFormed, AreWellFormedFrom, AreWellFormed}
 use Rattle.upc_values.specs.Strands.{may_wait}
 
@@ -92,11 +92,11 @@ blank-none : (k : Option Kind) → blank_in k ≡ None → is_some k ≡ true �
 blank-none (Some k) h s = cc
 blank-none None h s = cc
 
-valued-none : (v : Option Scalar) → valued v ≡ None → v ≡ None
+valued-none : (v : Option Scalar) → value_reply v ≡ None → v ≡ None
 valued-none (Some v) h = absurd cc
 valued-none None h = refl
 
-held-some : (o : Opening) (before : List Entry) (l : Loc) → is_some (cell_of o (objects o before) l) ≡ true → valued (held o before l) ≡ None → ⊥
+held-some : (o : Opening) (before : List Entry) (l : Loc) → is_some (cell_of o (objects o before) l) ≡ true → value_reply (held o before l) ≡ None → ⊥
 held-some o before l f h =
     blank-none (cell_of o (objects o before) l)
     (or_else-none (given l o.initials) (blank_in (cell_of o (objects o before) l))

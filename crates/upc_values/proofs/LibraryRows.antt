@@ -16,7 +16,7 @@ use Rattle.upc_values.specs.declared.library.ElementKind.TheVariants as element
 use Rattle.upc_values.specs.declared.library.LibraryCall.{LibraryCall}
 use Rattle.upc_values.specs.declared.library.LibraryCall.TheVariants as call
 use Rattle.upc_values.specs.Expansion.{Expansion, Gives, Fails, Asks, Stores, after_replies}
-use Rattle.upc_values.specs.LibraryCalls.{library_call, given_by, valued}
+use Rattle.upc_values.specs.LibraryCalls.{library_call, given_by, gives_zero}
 use Rattle.upc_values.specs.Expansions.{collective}
 
 -- Elements of four bytes, each an int, and thread 1 of two, whose private object 7 is four of them.
@@ -152,6 +152,6 @@ memset = refl
 -- A reduction is call 11, with the number of its element type in place of the function.
 reduce :
     on_1 (call.Reduce element.UnsignedInt) (at_p ∷ at_p ∷ int 1 ∷ int 1 ∷ int 0 ∷ int 0 ∷ int 9 ∷ [])
-    ≡ valued (collective 2 (ints ∷ []) 1 11
+    ≡ gives_zero (collective 2 (ints ∷ []) 1 11
     (Shared p ∷ Shared p ∷ Int (pos 1) ∷ Int (pos 1) ∷ Int (pos 0) ∷ Int (pos 5) ∷ Int (pos 9) ∷ []))
 reduce = refl

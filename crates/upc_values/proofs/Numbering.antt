@@ -9,7 +9,7 @@ use Rattle.upc_values.specs.declared.action.Reply.{Reply}
 use Rattle.upc_values.specs.declared.record.Item.{Item}
 use Rattle.upc_values.specs.declared.record.Item.TheVariants.{Did, Stall}
 use Rattle.upc_values.specs.declared.journal.Entry.{Entry}
-use Rattle.upc_values.specs.Drain.{Commit, commit_of, Walk, start, emptied, oldest_out, with_room, stored, passed, pending_value, changed, with_read, combined, put, looked_up, stepped, walked_from, drained, entry_of}
+use Rattle.upc_values.specs.Drain.{Commit, commit_of, Walk, start, emptied, oldest_out, with_room, stored, passed, pending_value, changed, with_read, combined, put_pending, looked_up, stepped, walked_from, drained, entry_of}
 use Rattle.upc_values.proofs.Commits.{walk-keeps}
 
 -- how many of the commits have the number
@@ -109,11 +109,11 @@ numbered-looked_up l e (Some v) w h s =
     numbered-same w (looked_up l e (Some v) w)
     (λ n. let k = counted-changed n 0 l (with_read e) (λ c. omega arith) w.pending in omega arith) (omega arith) s
 
-numbered-put : (l : Loc) (e : Entry) (o : Option Scalar) (w : Walk) → e.index ≡ w.next → Numbered w → Numbered (put l e o w)
+numbered-put : (l : Loc) (e : Entry) (o : Option Scalar) (w : Walk) → e.index ≡ w.next → Numbered w → Numbered (put_pending l e o w)
 numbered-put l e None w h s =
     numbered-stored e (with_room w) (h ∙ sym (number-with_room w)) (numbered-with_room w s)
 numbered-put l e (Some v) w h s =
-    numbered-new w (put l e (Some v) w)
+    numbered-new w (put_pending l e (Some v) w)
     (λ n.
     let b : cond {A = ℕ} (e.index == n) 1 0 ≡ cond {A = ℕ} (w.next == n) 1 0 = ap (λ k. cond {A = ℕ} (k == n) 1 0) h in
     let k = counted-changed n (cond {A = ℕ} (e.index == n) 1 0) l (combined e) (λ c. omega arith) w.pending in

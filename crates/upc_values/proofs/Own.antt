@@ -9,7 +9,7 @@ use Rattle.upc_values.specs.declared.record.Item.TheVariants.{Did, Stall}
 use Rattle.upc_values.specs.declared.journal.Entry.{Entry}
 use Rattle.upc_values.specs.Operations.{Access, Nothing, Reads, Writes, Writes_sync, Reads_sync, Writes_and_reads_sync, access, Operation, operations_by, accesses_of}
 use Rattle.upc_values.specs.Orders.{operations_from, rank}
-use Rattle.upc_values.specs.Drain.{Walk, start, emptied, pending_value, put, looked_up, stepped, walked_from, drained, entry_of}
+use Rattle.upc_values.specs.Drain.{Walk, start, emptied, pending_value, put_pending, looked_up, stepped, walked_from, drained, entry_of}
 use Rattle.upc_values.specs.Lists.{Each, Has, Pairwise}
 use Rattle.upc_values.specs.Consistent.{conflict}
 use Rattle.upc_values.proofs.Membership.{each-append, each-front, each-back, each-weaker, pairs-insert, has-left, has-right, has-cases}
@@ -130,7 +130,7 @@ number-looked_up : (l : Loc) (e : Entry) (o : Option Scalar) (w : Walk) → (loo
 number-looked_up l e None w = refl
 number-looked_up l e (Some v) w = refl
 
-number-put : (l : Loc) (e : Entry) (o : Option Scalar) (w : Walk) → (put l e o w).next ≡ w.next + 1
+number-put : (l : Loc) (e : Entry) (o : Option Scalar) (w : Walk) → (put_pending l e o w).next ≡ w.next + 1
 number-put l e None w = ap (λ n. n + 1) (number-with_room w)
 number-put l e (Some v) w = refl
 

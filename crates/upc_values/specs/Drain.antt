@@ -115,9 +115,9 @@ combined e c = record { entry = e; operations = c.operations ++ accesses e }
 
 -- A relaxed write of a location: where a write of it is pending, that one is combined into this one; else this one
 -- becomes pending, as the last, and of 64 the oldest is emitted.
-abbrev pub put : Loc → Entry → Option Scalar → Walk → Walk
-put l e None w = stored e (with_room w)
-put l e (Some v) w = record {
+abbrev pub put_pending : Loc → Entry → Option Scalar → Walk → Walk
+put_pending l e None w = stored e (with_room w)
+put_pending l e (Some v) w = record {
   next = w.next + 1;
   emitted = w.emitted;
   pending = changed l (combined e) w.pending;
@@ -138,7 +138,7 @@ looked_up l e (Some v) w = record {
 -- One more action: a relaxed write goes into the buffer, a relaxed read looks there first, a Print is emitted alone,
 -- and every other action empties the buffer before it.
 abbrev pub gone : Entry → Action → Walk → Walk
-gone e (Write false l v) w = put l e (pending_value l w.pending) w
+gone e (Write false l v) w = put_pending l e (pending_value l w.pending) w
 gone e (Read l false) w = looked_up l e (pending_value l w.pending) w
 gone e (Print x) w = passed e w
 gone e a w = passed e (emptied w)

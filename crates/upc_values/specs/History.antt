@@ -303,9 +303,9 @@ meet_reply o es t c args (Some w) =
     (Refused COLLECTIVE_MISMATCH)
 
 -- The reply that gives a value, if there is one.
-abbrev pub valued : Option Scalar → Option Reply
-valued (Some v) = Some (Value v)
-valued None = None
+abbrev pub value_reply : Option Scalar → Option Reply
+value_reply (Some v) = Some (Value v)
+value_reply None = None
 
 -- What a location holds after these entries: the last value written to it, else what its cell began with.
 abbrev pub held : Opening → List Entry → Loc → Option Scalar
@@ -314,7 +314,7 @@ held o es l = or_else (last_written l es) (initial_of o (objects o es) l)
 -- The one lawful reply of the action by thread t after the entries before it, or none.
 abbrev pub reply : Opening → List Entry → ℕ → Action → Option Reply
 -- a read gives what its location holds
-reply o before t (act.Read l s) = valued (held o before l)
+reply o before t (act.Read l s) = value_reply (held o before l)
 reply o before t (act.Write s l v) = Some Done
 reply o before t act.Fence = Some Done
 reply o before t act.Beat = Some Done

@@ -46,8 +46,8 @@ abbrev pub asks : Action → Expansion Scalar
 asks a = Asks a given_by
 
 -- A call that gives no value gives 0, which nothing uses.
-abbrev pub valued : Expansion (Unit {0}) → Expansion Scalar
-valued x = bind x (λ u. Gives zero)
+abbrev pub gives_zero : Expansion (Unit {0}) → Expansion Scalar
+gives_zero x = bind x (λ u. Gives zero)
 
 -- An object of so many bytes with this block in bytes, 0 being indefinite, that begins on thread 0.
 abbrev pub laid_out : ℕ → ℕ → ObjectRef
@@ -142,7 +142,7 @@ module _ (threads : ℕ) (shapes : List Shape) (me : ℕ) (private : ℕ → Opt
 
   -- What the collective calls 5 to 12 do, upc_all_broadcast to upc_all_prefix_reduce (UPC 7.3).
   abbrev pub together : (c : ℕ) → List Value → Expansion Scalar
-  together c args = valued (collective threads shapes me c (scalars args))
+  together c args = gives_zero (collective threads shapes me c (scalars args))
 
   -- What a call does with these arguments, each converted to its parameter's type; an allocation makes elements of the
   -- shape with this number. A printf, which has a format, and upc_global_exit, which ends the thread, are not among
@@ -183,16 +183,16 @@ module _ (threads : ℕ) (shapes : List Shape) (me : ℕ) (private : ℕ → Opt
   library_call call.AllLockFree shape (value.Scalar (Lock l) ∷ []) = asks (act.Meet 4 (Lock l ∷ []))
   -- upc_memcpy: it copies bytes of a shared object to a shared object (UPC 7.2.5)
   library_call call.Memcpy shape (dst ∷ src ∷ value.Scalar (Int n) ∷ []) =
-      valued (copy threads shapes None (area_of dst) (area_of src) (unsigned_abs n))
+      gives_zero (copy threads shapes None (area_of dst) (area_of src) (unsigned_abs n))
   -- upc_memget: it copies bytes of a shared object to a private one (UPC 7.2.5)
   library_call call.Memget shape (dst ∷ src ∷ value.Scalar (Int n) ∷ []) =
-      valued (copy threads shapes (private_shape (area_of dst)) (area_of dst) (area_of src) (unsigned_abs n))
+      gives_zero (copy threads shapes (private_shape (area_of dst)) (area_of dst) (area_of src) (unsigned_abs n))
   -- upc_memput: it copies bytes of a private object to a shared one (UPC 7.2.5)
   library_call call.Memput shape (dst ∷ src ∷ value.Scalar (Int n) ∷ []) =
-      valued (copy threads shapes (private_shape (area_of src)) (area_of dst) (area_of src) (unsigned_abs n))
+      gives_zero (copy threads shapes (private_shape (area_of src)) (area_of dst) (area_of src) (unsigned_abs n))
   -- upc_memset: it sets bytes of a shared object to c as an unsigned char (UPC 7.2.5)
   library_call call.Memset shape (dst ∷ value.Scalar (Int c) ∷ value.Scalar (Int n) ∷ []) =
-      valued (set threads shapes None (area_of dst) (unsigned_abs (converted kind.UChar c)) (unsigned_abs n))
+      gives_zero (set threads shapes None (area_of dst) (unsigned_abs (converted kind.UChar c)) (unsigned_abs n))
   -- the collective calls 5 to 12, upc_all_broadcast to upc_all_prefix_reduce (UPC 7.3)
   library_call call.Broadcast shape args = together 5 args
   library_call call.Scatter shape args = together 6 args

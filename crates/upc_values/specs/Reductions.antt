@@ -36,14 +36,6 @@ reduction n =
     ((1, Sum) ∷ (2, Product) ∷ (4, Bits_and) ∷ (8, Bits_or) ∷ (16, Bits_xor) ∷ (32, Both) ∷ (64, Either)
     ∷ (128, Least) ∷ (256, Greatest) ∷ []))
 
--- The kind after promotion (C99 6.3.1.1).
-abbrev pub promoted : Kind → Kind
-promoted Char = Int
-promoted UChar = Int
-promoted Short = Int
-promoted UShort = Int
-promoted k = k
-
 -- What a reduction's operator gives on two numbers of a promoted kind (C99 6.5).
 abbrev pub reduced : Reduction → Kind → ℤ → ℤ → Result ℤ ℕ
 reduced Sum k a b = binary_of Add k a b

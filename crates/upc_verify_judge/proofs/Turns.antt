@@ -12,7 +12,7 @@ use Rattle.upc_values.specs.declared.record.Item.{Item}
 use Rattle.upc_values.specs.declared.record.Item.TheVariants.{Did, Stall}
 use Rattle.upc_values.specs.declared.journal.Entry.{Entry}
 use Rattle.upc_values.specs.Lists.{Each}
-use Rattle.upc_values.specs.Drain.{Commit, commit_of, entries_in, Walk, start, emptied, oldest_out, with_room, passed, stored, pending_value, changed, combined, put, looked_up, gone, walked_from, walked, entry_of, entries_of, drain}
+use Rattle.upc_values.specs.Drain.{Commit, commit_of, entries_in, Walk, start, emptied, oldest_out, with_room, passed, stored, pending_value, changed, combined, put_pending, looked_up, gone, walked_from, walked, entry_of, entries_of, drain}
 use Rattle.upc_values.specs.History.{is_notify, is_wait, notifies, waits}
 use Rattle.upc_values.specs.Records.{actions_of}
 use Rattle.upc_values.proofs.Drained.{read-entries}
@@ -92,7 +92,7 @@ still-changed l e (c ∷ cs) p h =
     cond_both (is_some (pending_value l cs)) (c ∷ changed l (combined e) cs) (combined e c ∷ cs)
     (λ z. Each IsStill (entries_in z)) (λ _. (h.0, still-changed l e cs p h.1)) (λ _. (p, h.1))
 
-turned-put : (s : Option Bool) (l : Loc) (e : Entry) (f : Option Scalar) (w : Walk) → IsStill e → Turned s w → Turned s (put l e f w)
+turned-put : (s : Option Bool) (l : Loc) (e : Entry) (f : Option Scalar) (w : Walk) → IsStill e → Turned s w → Turned s (put_pending l e f w)
 turned-put s l e None w p h = turned-stored s e (with_room w) p (turned-room s w h)
 turned-put s l e (Some v) w p h = (h.0, still-changed l e w.pending p h.1)
 
@@ -112,7 +112,7 @@ turned-gone t i (Read l false) r s w h =
 turned-gone t i (Read l true) r s w h = turned-passed s (entry_of t i (Read l true) r) (emptied w) (turned-emptied s w h)
 turned-gone t i (Write false l v) r s w h =
     let e = entry_of t i (Write false l v) r in
-    subst (λ z. Turned z (put l e (pending_value l w.pending) w)) (sym (still-write false l v s))
+    subst (λ z. Turned z (put_pending l e (pending_value l w.pending) w)) (sym (still-write false l v s))
     (turned-put s l e (pending_value l w.pending) w (still-write false l v) h)
 turned-gone t i (Write true l v) r s w h = turned-passed s (entry_of t i (Write true l v) r) (emptied w) (turned-emptied s w h)
 turned-gone t i (Print x) r s w h = turned-passed s (entry_of t i (Print x) r) w h

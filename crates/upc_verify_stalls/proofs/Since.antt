@@ -10,7 +10,7 @@ use Rattle.upc_values.specs.declared.record.Item.{Item}
 use Rattle.upc_values.specs.declared.record.Item.TheVariants.{Did, Stall}
 use Rattle.upc_values.specs.declared.journal.Entry.{Entry}
 use Rattle.upc_values.specs.Lists.{Each}
-use Rattle.upc_values.specs.Drain.{Commit, commit_of, Walk, start, emptied, oldest_out, with_room, stored, passed, pending_value, with_read, combined, put, looked_up, stepped, walked_from, walked, entry_of}
+use Rattle.upc_values.specs.Drain.{Commit, commit_of, Walk, start, emptied, oldest_out, with_room, stored, passed, pending_value, with_read, combined, put_pending, looked_up, stepped, walked_from, walked, entry_of}
 use Rattle.upc_values.specs.Records.{actions_of}
 use Rattle.upc_values.proofs.Membership.{each-append, each-weaker}
 use Rattle.upc_values.proofs.Growth.{each-changed}
@@ -95,7 +95,7 @@ since-looked_up n b l e (Some u) w v q s =
     }
 
 since-put : (n : ℕ) (b : List Commit) (l : Loc) (e : Entry) (o : Option Scalar) (w : Walk) → pending_value l w.pending ≡ o
-    → e.index ≡ w.next → Since n b w → Since n b (put l e o w)
+    → e.index ≡ w.next → Since n b w → Since n b (put_pending l e o w)
 since-put n b l e None w v q s =
     since-stored n b e (with_room w) (q ∙ sym (number-with_room w)) (since-with_room n b w s)
 since-put n b l e (Some u) w v q s =
@@ -176,7 +176,7 @@ under-looked_up l e (Some u) w v q s =
     }
 
 under-put : (l : Loc) (e : Entry) (o : Option Scalar) (w : Walk) → pending_value l w.pending ≡ o → e.index ≡ w.next
-    → Under w → Under (put l e o w)
+    → Under w → Under (put_pending l e o w)
 under-put l e None w v q s = under-stored e (with_room w) (q ∙ sym (number-with_room w)) (under-with_room w s)
 under-put l e (Some u) w v q s =
     record {
@@ -203,7 +203,7 @@ pub under-walked : (t : ℕ) (xs : List Item) → Under (walked t xs)
 under-walked t xs = under-from t start xs (record { emitted = tt; pending = tt })
 
 -- the number of the next action is how many actions there were
-next-put : (l : Loc) (e : Entry) (o : Option Scalar) (w : Walk) → (put l e o w).next ≡ w.next + 1
+next-put : (l : Loc) (e : Entry) (o : Option Scalar) (w : Walk) → (put_pending l e o w).next ≡ w.next + 1
 next-put l e None w = ap (λ n. n + 1) (number-with_room w)
 next-put l e (Some v) w = refl
 

@@ -13,7 +13,7 @@ use Rattle.upc_values.specs.declared.scalar.Value.{Value}
 use Rattle.upc_values.specs.declared.scalar.Value.TheVariants as value
 use Rattle.upc_types.specs.Types.{CType, base_of}
 use Rattle.upc_types.specs.Cells.{leaves}
-use Rattle.upc_types.specs.Arithmetic.{promoted}
+use Rattle.integers.specs.Integers.{promoted}
 use Rattle.typing_rules.specs.declared.setting.Home.{Home}
 use Rattle.typing_rules.specs.declared.setting.Home.TheVariants as home
 use Rattle.typing_rules.specs.Library.{int, call_parameters}

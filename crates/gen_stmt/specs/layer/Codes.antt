@@ -5,7 +5,7 @@ use Rattle.block_layout.specs.declared.kind.Kind.{Kind}
 use Rattle.block_layout.specs.declared.kind.Shape.{Shape}
 use Rattle.upc_values.specs.declared.scalar.Mark.TheVariants.{Absent}
 use Rattle.upc_types.specs.Types.{CType, base_of}
-use Rattle.upc_types.specs.Arithmetic.{promoted}
+use Rattle.integers.specs.Integers.{promoted}
 use Rattle.typed_tree.specs.declared.tree.Synchronises.{Synchronises}
 use Rattle.typed_tree.specs.declared.tree.Synchronises.TheVariants.{Notify, Wait, Barrier}
 use Rattle.typed_tree.specs.Tree.{Expr, Exprs, NoExprs, AndExpr, place_of, Initial, NoInitial, InitialValue}

@@ -323,7 +323,7 @@ pub record SharedHaveShapes : Type 0 where
 pub record NamesAreFound : Type 0 where
   pub found : (n : ℕ) (s : Live) → HasScope s → (number : ℕ) × (live.local_number n s ≡ Some number)
   -- A call has begun, and then the block of its function.
-  pub begins : (shapes : List Shape) (s : Live) → HasScope (live.entered 0 shapes (live.called s))
+  pub begins : (shapes : List Shape) (s : Live) → HasScope (live.entered 0 shapes (live.call_begun s))
   -- A block is entered.
   pub inside : (from : ℕ) (shapes : List Shape) (s : Live) → HasScope s → HasScope (live.entered from shapes s)
 

@@ -12,7 +12,7 @@ use Rattle.upc_values.specs.declared.action.Reply.TheVariants.{Done, Value, Flag
 use Rattle.upc_values.specs.Shapes.{fits_cell}
 use Rattle.upc_values.specs.Calls.{Call, call_of}
 use Rattle.upc_values.specs.Openings.{Opening, is_named}
-use Rattle.upc_values.specs.History.{valued}
+use Rattle.upc_values.specs.History.{value_reply}
 use Rattle.upc_values.specs.Formed.{may_alloc, is_home}
 use Rattle.sync_objects.specs.declared.locks.LockState.{LockState}
 use Rattle.sync_objects.specs.layer.Locks as lock
@@ -114,7 +114,7 @@ meet_answer t c args p =
 
 -- The answer to an action of a thread, none where it has to wait.
 abbrev pub answer : ℕ → Action → PartsState → Option Reply
-answer t (act.Read l s) p = valued (content p.heap l)
+answer t (act.Read l s) p = value_reply (content p.heap l)
 answer t (act.Wait m) p = barrier.wait_answer t m p.barrier
 answer t (act.Lock l) p = lock.lock_answer t (lock_of l p.locks)
 answer t (act.Attempt l) p = Some (lock.attempt_answer (lock_of l p.locks))

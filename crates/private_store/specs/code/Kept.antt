@@ -10,7 +10,7 @@ use Rattle.upc_values.specs.declared.scalar.Value.{Value}
 use Rattle.block_layout.specs.Lists.{under}
 use Rattle.upc_values.specs.Shapes.{value_fits}
 use Rattle.private_store.specs.declared.frame.Block.{Block}
-use Rattle.private_store.specs.Live.{Thing, bytes_of}
+use Rattle.private_store.specs.Live.{Thing, thing_bytes}
 use Rattle.private_store.specs.Cells.{cell_in, lies_within, reached}
 
 -- Each cell of a shape has a value, which fits it.
@@ -28,7 +28,7 @@ pub record IsKept (objects : List Thing) (blocks : List Block) (next space : ℕ
   pub below : All (λ x. x.number < next) objects
   pub few : next ≤ 2 ^ 63
   pub firsts : All (λ b. b.first ≤ 2 ^ 63) blocks
-  pub counted : space ≡ bytes_of objects
+  pub counted : space ≡ thing_bytes objects
   pub room : space ≤ 1048576
 
 -- The cell at this place is of this kind.

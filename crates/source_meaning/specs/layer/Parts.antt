@@ -6,7 +6,7 @@ use Rattle.upc_text.specs.declared.place.Place.{Place}
 use Rattle.block_layout.specs.declared.kind.Kind.{Kind}
 use Rattle.block_layout.specs.declared.kind.Kind.TheVariants as kind
 use Rattle.block_layout.specs.declared.kind.Shape.{Shape}
-use Rattle.integers.specs.Integers.{converted}
+use Rattle.integers.specs.Integers.{converted, promoted}
 use Rattle.integers.specs.declared.operator.BinOp.{BinOp}
 use Rattle.integers.specs.declared.operator.BinOp.TheVariants as op
 use Rattle.upc_values.specs.declared.scalar.Value.{Value}
@@ -18,7 +18,6 @@ use Rattle.upc_values.specs.Outcomes.{Outcome}
 use Rattle.upc_types.specs.declared.layout.Layout.{Layout}
 use Rattle.upc_types.specs.Types.{CType, Base, Array, Structs}
 use Rattle.upc_types.specs.Layout.{base_within}
-use Rattle.upc_types.specs.Arithmetic.{promoted}
 use Rattle.typing_rules.specs.declared.attribute.Form.{Form}
 use Rattle.typing_rules.specs.declared.attribute.Form.TheVariants.{Lvalue}
 use Rattle.typing_rules.specs.Constants.{working_kind, right_kind}

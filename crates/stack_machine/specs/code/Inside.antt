@@ -16,14 +16,14 @@ use Rattle.upc_values.specs.declared.record.ToldEnd.TheVariants.{Wants, Fault}
 use Rattle.upc_values.specs.declared.library.LibraryCall.{LibraryCall}
 use Rattle.upc_values.specs.Outcomes.{Outcome}
 use Rattle.upc_values.specs.Formed.{fits}
-use Rattle.upc_values.specs.LibraryCalls.{library_call, meet_number, valued}
+use Rattle.upc_values.specs.LibraryCalls.{library_call, meet_number, gives_zero}
 use Rattle.upc_values.specs.Expansion.{Expansion, Gives, Fails, Reads, Asks, Loads, Stores, value_in}
 use Rattle.private_store.specs.Live.{Live}
 use Rattle.private_store.specs.Cells.{loaded, stored}
 use Rattle.thread_steps.specs.States.{Thread, bind, give}
 use Rattle.thread_steps.specs.Values.{kept, scalar_of}
 use Rattle.thread_steps.specs.Actions.{is_controlled}
-use Rattle.thread_steps.specs.Accesses.{run}
+use Rattle.thread_steps.specs.Accesses.{library_steps}
 use Rattle.thread_steps.specs.Library.{is_formed}
 use Rattle.thread_steps.specs.layer.Parts.{private_shapes, is_exit}
 use Rattle.stack_code.specs.declared.instruction.ThreadWork.TheVariants.{Library}
@@ -38,7 +38,7 @@ use Rattle.stack_machine.specs.code.Standing.{Stands, first_body}
 -- the next instruction follows.
 abbrev pub inside : Thread → Place → Expansion Scalar → Body → List Action → List Reply → Conf
 inside τ at x b before later =
-    conf_of (bind (run τ at x (state_of b before later)) (λ v. give (value.Scalar v)))
+    conf_of (bind (library_steps τ at x (state_of b before later)) (λ v. give (value.Scalar v)))
     (λ v. At (further 1 b.at) b.given (v ∷ b.operands) b.calls)
 
 -- The body behind a call that gave this value.
@@ -150,9 +150,10 @@ module _ (codes : Codes) (thread budget : ℕ) where
   -- The thread stands inside the call that is on its way, or between two instructions where none is.
   abbrev pub StandsAt : (given left : List Reply) → Option OnItsWay → Body → Type 0
   StandsAt given left None b = Stands codes thread budget given left b
-  StandsAt given left (Some c) b = StandsInside codes thread budget given left c.place (valued (c.left codes.shapes)) b
+  StandsAt given left (Some c) b =
+      StandsInside codes thread budget given left c.place (gives_zero (c.left codes.shapes)) b
 
   -- The action that is wanted there, at so many ticks.
   abbrev pub Awaited : Option OnItsWay → Body → Action → (ticks : ℕ) → Type 0
   Awaited None b a n = one (thread_of codes thread budget) codes.functions [] b ≡ Awaits a n []
-  Awaited (Some c) b a n = (wanted_in (valued (c.left codes.shapes)) ≡ Some a) × (b.ticks ≡ n)
+  Awaited (Some c) b a n = (wanted_in (gives_zero (c.left codes.shapes)) ≡ Some a) × (b.ticks ≡ n)

@@ -7,12 +7,12 @@ use Rattle.upc_values.specs.declared.scalar.Value.TheVariants as value
 use Rattle.upc_values.specs.Expansion.{Expansion}
 use Rattle.thread_steps.specs.States.{Thread, Doing, ◌>>=◌, ◌>>◌, give, skip, choose}
 use Rattle.thread_steps.specs.Actions.{meet}
-use Rattle.thread_steps.specs.Accesses.{run}
+use Rattle.thread_steps.specs.Accesses.{library_steps}
 
 -- A call of the library, step by step, whose scalar is given as a value (C99 7.19.6.3, UPC 7).
 abbrev pub expanded_to : Thread → Place → Expansion Scalar → Doing Value
 expanded_to τ at x = do
-  v ← run τ at x
+  v ← library_steps τ at x
   give (value.Scalar v)
 
 -- A call of the library, step by step, which begins only where all threads may meet if it is collective (UPC 6.6.1,

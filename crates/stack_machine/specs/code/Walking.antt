@@ -4,7 +4,7 @@ use Rattle.upc_text.specs.declared.place.Place.{Place}
 use Rattle.upc_values.specs.declared.action.Reply.{Reply}
 use Rattle.upc_values.specs.Scalars.{zero}
 use Rattle.upc_values.specs.Expansion.{Expansion, after_reply}
-use Rattle.upc_values.specs.LibraryCalls.{valued}
+use Rattle.upc_values.specs.LibraryCalls.{gives_zero}
 use Rattle.stack_code.specs.layer.Codes.{Codes}
 use Rattle.upc_values.specs.declared.refused.Refused.{Refused}
 use Rattle.upc_values.specs.declared.refused.Refused.TheVariants as refused
@@ -41,13 +41,13 @@ module _ (codes : Codes) (thread budget : ℕ) (given : List Reply) where
   module _ (at : Place) where
     -- The thread is inside a call of which this is left.
     abbrev pub IsInside : Expansion (Unit {0}) → Body → Progress → Type 0
-    IsInside x b p = StandsInside codes thread budget given (listed p.reply) at (valued x) (body_with b p)
+    IsInside x b p = StandsInside codes thread budget given (listed p.reply) at (gives_zero x) (body_with b p)
 
     -- The call goes no further: an action is wanted, at so many ticks, or the thread ends. Nothing is said of want of
     -- memory.
     abbrev pub IsHalted : Expansion (Unit {0}) → Body → Halt → Progress → Type 0
     IsHalted x b Memory p = Unit {0}
-    IsHalted x b (Asks a n) p = IsInside x b p × (p.reply ≡ None) × (wanted_in (valued x) ≡ Some a) × (p.ticks ≡ n)
+    IsHalted x b (Asks a n) p = IsInside x b p × (p.reply ≡ None) × (wanted_in (gives_zero x) ≡ Some a) × (p.ticks ≡ n)
     IsHalted x b (Stops s n) p = HasStopped codes thread budget given (told_by s) n
 
     -- The call is over, and the next instruction follows.

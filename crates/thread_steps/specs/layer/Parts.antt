@@ -19,7 +19,7 @@ use Rattle.upc_values.specs.declared.library.LibraryCall.{LibraryCall}
 use Rattle.upc_values.specs.declared.library.LibraryCall.TheVariants.{GlobalExit}
 use Rattle.upc_values.specs.Formed.{fits}
 use Rattle.private_store.specs.declared.store.TheConstants.{MOST_BYTES, MOST_CALLS}
-use Rattle.private_store.specs.Live.{Live, bytes_of, bytes_in, controls, recounted, thing}
+use Rattle.private_store.specs.Live.{Live, thing_bytes, bytes_in, controls, recounted, thing}
 use Rattle.thread_steps.specs.States.{Thread, State, Res, Val, Doing, ◌>>◌, over, fault, skip}
 use Rattle.thread_steps.specs.Values.{number_of}
 use Rattle.thread_steps.specs.Actions.{answered, ask}
@@ -62,7 +62,7 @@ is_not_notified σ = not σ.notified
 
 -- Objects of these shapes would bring the private objects of the thread over the bytes that they may have.
 abbrev pub is_too_large : List Shape → State → Bool
-is_too_large shapes σ = nat_lt MOST_BYTES (bytes_of σ.store.objects + bytes_in shapes)
+is_too_large shapes σ = nat_lt MOST_BYTES (thing_bytes σ.store.objects + bytes_in shapes)
 
 -- As many calls are active as may be at once.
 abbrev pub is_deep : State → Bool

@@ -6,7 +6,7 @@ use Rattle.upc_values.specs.declared.scalar.Value.TheVariants as value
 use Rattle.upc_values.specs.Scalars.{zero}
 use Rattle.upc_values.specs.Expansion as expansion
 use Rattle.upc_values.specs.Expansion.{Expansion, after_reply}
-use Rattle.upc_values.specs.LibraryCalls.{valued}
+use Rattle.upc_values.specs.LibraryCalls.{gives_zero}
 use Rattle.thread_steps.specs.States.{Thread, State, Val, Over}
 use Rattle.upc_library.specs.layer.Wishes.{is_refusal}
 use Rattle.upc_meaning_state.specs.declared.progress.Step.{Step}
@@ -23,13 +23,13 @@ Answers (Ends e) = Unit {0}
 -- What the call asks for is answered, and the rest follows; or the thread has ended.
 abbrev pub IsAnswered : Thread → Place → Expansion (Unit {0}) → State → Step Reply → Progress → Type 0
 IsAnswered τ at x σ (Gives r) q =
-    expanded_to τ at (valued x) σ ≡ expanded_to τ at (valued (after_reply x r)) (state_seen q)
-IsAnswered τ at x σ (Ends e) q = expanded_to τ at (valued x) σ ≡ Over e (state_seen q)
+    expanded_to τ at (gives_zero x) σ ≡ expanded_to τ at (gives_zero (after_reply x r)) (state_seen q)
+IsAnswered τ at x σ (Ends e) q = expanded_to τ at (gives_zero x) σ ≡ Over e (state_seen q)
 
 -- So it is, if the call asks for anything; if not it is over.
 abbrev pub IsAnsweredOrOver : Thread → Place → Expansion (Unit {0}) → State → Option (Step Reply) → Progress → Type 0
 IsAnsweredOrOver τ at x σ (Some s) q = IsAnswered τ at x σ s q
-IsAnsweredOrOver τ at x σ None q = expanded_to τ at (valued x) σ ≡ Val (value.Scalar zero) (state_seen q)
+IsAnsweredOrOver τ at x σ None q = expanded_to τ at (gives_zero x) σ ≡ Val (value.Scalar zero) (state_seen q)
 
 -- There is something left to do.
 abbrev pub IsUnfinished : Expansion (Unit {0}) → Type 0

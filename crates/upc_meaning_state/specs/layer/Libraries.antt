@@ -10,7 +10,7 @@ use Rattle.typing_rules.specs.Nodes.{Attr}
 use Rattle.typed_tree.specs.Tree.{Exprs, NoExprs, AndExpr}
 use Rattle.thread_steps.specs.States.{Thread, Doing, ◌>>=◌, ◌>>◌, give, skip, choose}
 use Rattle.thread_steps.specs.Actions.{meet}
-use Rattle.thread_steps.specs.Accesses.{run}
+use Rattle.thread_steps.specs.Accesses.{library_steps}
 use Rattle.thread_steps.specs.Library.{library, print}
 use Rattle.source_meaning.specs.Running.{Running}
 use Rattle.source_meaning.specs.Expressions.{format_of, allocated_shape}
@@ -18,7 +18,7 @@ use Rattle.source_meaning.specs.layer.Parts.{is_printf}
 
 -- A call of the library, step by step, whose scalar is given as a value (C99 7.19.6.3, UPC 7).
 abbrev pub expanded_to : Thread → Place → Expansion Scalar → Doing Value
-expanded_to τ at x = run τ at x >>= (λ v. give (value.Scalar v))
+expanded_to τ at x = library_steps τ at x >>= (λ v. give (value.Scalar v))
 
 -- A call of the library, step by step, which begins only where all threads may meet if it is collective (UPC 6.6.1,
 -- 7.3).

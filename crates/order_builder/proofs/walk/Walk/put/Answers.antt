@@ -22,7 +22,7 @@ pub returns-in_ok-make_room-in-None : goal.returns-in_ok-make_room-in-None
 returns-in_ok-make_room-in-None c =
     on_ok_weaker c.store.result
     (λ e w s.
-    subst (λ o. IsShown (drain.put c.args.loc (entry_in c.args.latest) o w) c.store.new.self)
+    subst (λ o. IsShown (drain.put_pending c.args.loc (entry_in c.args.latest) o w) c.store.new.self)
     (sym (none-kept c.args.loc c.args.self.now.pending.items w.pending (c.in-None.ensures.none refl) s.pending))
     (e (drain.with_room w) (c.in_ok-make_room-in-None.ensures w s)))
     c.store.ensures

@@ -1,5 +1,5 @@
 use Rattle.std.proofs.Common.{◌≤◌, arith}
-use Rattle.private_store.specs.Live.{bytes_of}
+use Rattle.private_store.specs.Live.{thing_bytes}
 use Rattle.private_store.specs.code.Held.{held_values}
 use Rattle.private_store.specs.code.Laid.{things_of}
 use Rattle.private_store.proofs.Laid.{ended, sounds}
@@ -10,7 +10,7 @@ bytes_among-requires c =
     let o = c.self.inside in
     let vs = held_values o.held.items in
     let e = ended vs o.list.items c.args.kept (sounds o.list.items vs o.known.items c.self.invariant) in
-    let all : bytes_of (things_of vs o.list.items) ≤ 1048576 = rw (← c.self.view_is) at c.requires in
+    let all : thing_bytes (things_of vs o.list.items) ≤ 1048576 = rw (← c.self.view_is) at c.requires in
     rw c.deref.ensures.value (omega arith)
 
 pub returns : goal.returns

@@ -1,6 +1,6 @@
 use Rattle.std.proofs.Common.{◌≡◌, sym, ap, ◌∙◌, subst, List}
 use Rattle.upc_values.specs.declared.scalar.Value.{Value}
-use Rattle.upc_values.specs.LibraryCalls.{library_call, valued}
+use Rattle.upc_values.specs.LibraryCalls.{library_call, gives_zero}
 use Rattle.thread_values.specs.layer.Copies.{shapes_in}
 use Rattle.stack_machine.specs.layer.Machine.{listed}
 use Rattle.stack_machine.specs.code.Calls.{left_of, FailsSo, UnlessWant}
@@ -33,7 +33,7 @@ returns-in-Ok-clause-enters c = λ given s.
     let t = c.args.self.now in
     let next = c.args.next in
     subst (λ (l : List Value). StandsInside code r.number r.budget given (listed t.progress.reply) next.place
-    (valued (left_of code.shapes c.in-Ok.walk)) (task_seen (record t { operands = l })))
+    (gives_zero (left_of code.shapes c.in-Ok.walk)) (task_seen (record t { operands = l })))
     (sym c.drop_youngest.ensures)
     (enters_so code r.number r.budget given (task_seen t) next c.requires.there
     (walks_no_exit next.call c.requires.walks) c.requires.meets (listed t.progress.reply) c.in-Ok.walk

@@ -2,7 +2,7 @@ use Rattle.std.proofs.Common.{◌≡◌, [], Option, Some, None, true, sym, ◌�
 use Rattle.block_layout.specs.declared.kind.Kind.{Kind}
 use Rattle.upc_values.specs.Expansion.{after_reply}
 use Rattle.upc_values.specs.Formed.{fits}
-use Rattle.upc_values.specs.LibraryCalls.{valued}
+use Rattle.upc_values.specs.LibraryCalls.{gives_zero}
 use Rattle.upc_library.specs.layer.Wishes.{kind_read}
 use Rattle.stack_machine.specs.layer.Machine.{listed}
 use Rattle.stack_machine.specs.code.Calls.{left_of}
@@ -22,10 +22,10 @@ returns-else-not-fits-clause-goes c = λ thread budget given b h.
     let fit : fits code.threads code.shapes (kind_read x) c.args.action r ≡ true =
     subst (λ (k : Option Kind). fits code.threads code.shapes k c.args.action r ≡ true) (c.reads.ensures code.shapes)
     (sym c.fits.ensures.value ∙ c.if-not-fits.false) in
-    subst (λ o. StandsInside code thread budget given (listed o) c.args.place (valued (after_reply x r)) (body_with b p))
+    subst (λ o. StandsInside code thread budget given (listed o) c.args.place (gives_zero (after_reply x r)) (body_with b p))
     (sym gone)
     (act_goes code thread budget given c.args.place (body_with b p) x c.args.action r p.store [] c.requires fit
-    (subst (λ o. StandsInside code thread budget given (listed o) c.args.place (valued x) (body_with b p)) there h))
+    (subst (λ o. StandsInside code thread budget given (listed o) c.args.place (gives_zero x) (body_with b p)) there h))
 
 pub returns-else-not-fits-clause-taken : goal.returns-else-not-fits-clause-taken
 returns-else-not-fits-clause-taken c =

@@ -3,7 +3,7 @@ use Rattle.std.specs.Prelude.{Err}
 use Rattle.upc_values.specs.Calls.{call_of}
 use Rattle.upc_values.specs.declared.scalar.Scalar.{Scalar}
 use Rattle.upc_values.specs.Expansions.{collective}
-use Rattle.upc_values.specs.LibraryCalls.{valued}
+use Rattle.upc_values.specs.LibraryCalls.{gives_zero}
 use Rattle.collectives.specs.layer.Arguments.{copies_or_reduces}
 use Rattle.thread_values.specs.layer.Copies.{shapes_in}
 use Rattle.thread_values.specs.layer.Collectives.{scalars_met}
@@ -21,7 +21,7 @@ returns-in-Ok-clause-made c =
     let same : c.as_slice-scalars.result.now ≡ scalars_met next.call c.args.args.now = search rules in
     collective_means code.threads code.shapes me (shapes_in c.args.self.now.store) next.shape c.args.args.now next.call
     c.args.number c.requires
-    ∙ ap valued (sym (c.in-Ok.ensures.made code.shapes
+    ∙ ap gives_zero (sym (c.in-Ok.ensures.made code.shapes
     ∙ collective_is c.threads.result code.threads code.shapes me c.args.number c.as_slice-scalars.result.now
     (scalars_met next.call c.args.args.now) c.threads.ensures.value same))
 
@@ -48,7 +48,7 @@ returns-clause-fails c =
     c.args.self.now.ticks c.refused.result
     (collective_means code.threads code.shapes me (shapes_in c.args.self.now.store) next.shape c.args.args.now next.call
     c.args.number c.requires
-    ∙ ap valued (sym (collective_is c.threads.result code.threads code.shapes me c.args.number c.as_slice-scalars.result.now
+    ∙ ap gives_zero (sym (collective_is c.threads.result code.threads code.shapes me c.args.number c.as_slice-scalars.result.now
     (scalars_met next.call c.args.args.now) c.threads.ensures.value same)))
     (refuses_as c.in-Err.e _ (c.in-Err.ensures.refused code.shapes)) c.refused.ensures
 

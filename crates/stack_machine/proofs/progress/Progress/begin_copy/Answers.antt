@@ -1,7 +1,7 @@
 use Rattle.std.proofs.Common.{sym, ap, ◌∙◌, subst}
 use Rattle.std.specs.Option.{option_copied}
 use Rattle.upc_values.specs.Expansion.{Expansion}
-use Rattle.upc_values.specs.LibraryCalls.{valued}
+use Rattle.upc_values.specs.LibraryCalls.{gives_zero}
 use Rattle.upc_library.specs.layer.Wishes.{expansion}
 use Rattle.thread_values.specs.layer.Copies.{shapes_in}
 use Rattle.thread_values.proofs.MemoryCalls.{means}
@@ -16,7 +16,7 @@ returns-in-Ok-clause-made c =
     let private = shapes_in c.args.self.now.store in
     means code.threads code.shapes c.args.runner.now.number c.args.next.now.shape private c.args.args.now
     c.args.next.now.call c.requires.copies
-    ∙ ap valued (sym (c.in-Ok.ensures.made
+    ∙ ap gives_zero (sym (c.in-Ok.ensures.made
     ∙ made_is c.threads.result code.threads c.shapes.result.now code.shapes (option_copied c.private_of-private.result)
     private c.spec_of-spec.result c.args.next.now.call c.args.args.now c.threads.ensures.value c.shapes.ensures.value
     c.spec_of-spec.ensures c.private_of-private.ensures.value))
@@ -42,7 +42,7 @@ returns-in-Err-clause-fails c =
     c.args.next.now.place c.args.self.now.ticks c.refused.result
     (means code.threads code.shapes c.args.runner.now.number c.args.next.now.shape private c.args.args.now
     c.args.next.now.call c.requires.copies
-    ∙ ap valued (sym (made_is c.threads.result code.threads c.shapes.result.now code.shapes
+    ∙ ap gives_zero (sym (made_is c.threads.result code.threads c.shapes.result.now code.shapes
     (option_copied c.private_of-private.result) private c.spec_of-spec.result c.args.next.now.call c.args.args.now
     c.threads.ensures.value c.shapes.ensures.value c.spec_of-spec.ensures c.private_of-private.ensures.value)))
     c.in-Err.ensures.refused c.refused.ensures

@@ -3,7 +3,7 @@ use Rattle.std.specs.Prelude.{Ok, Err}
 use Rattle.upc_values.specs.declared.scalar.Scalar.{Scalar}
 use Rattle.upc_values.specs.declared.action.Reply.TheVariants as reply
 use Rattle.upc_values.specs.Expansion.{after_reply}
-use Rattle.upc_values.specs.LibraryCalls.{valued}
+use Rattle.upc_values.specs.LibraryCalls.{gives_zero}
 use Rattle.private_store.specs.Cells.{loaded}
 use Rattle.stack_machine.specs.layer.Machine.{listed}
 use Rattle.stack_machine.specs.code.Calls.{left_of}
@@ -37,7 +37,7 @@ returns-in-Ok c =
     record {
       goes = λ thread budget given b h.
           subst (λ (v : Scalar). StandsInside code thread budget given (listed p.reply) c.args.place
-          (valued (after_reply x (reply.Value v))) (body_with b p)) (sym c.scalar_of.ensures.value)
+          (gives_zero (after_reply x (reply.Value v))) (body_with b p)) (sym c.scalar_of.ensures.value)
           (load_goes code thread budget given c.args.place (body_with b p) x c.args.p c.args.kind c.in-Ok.v p.store
           (listed p.reply) c.requires.wish found h);
       held = c.scalar_of.ensures.held code.threads code.shapes

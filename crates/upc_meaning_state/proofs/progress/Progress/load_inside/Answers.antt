@@ -2,7 +2,7 @@ use Rattle.std.proofs.Common.{◌≡◌, sym, refl, ◌∙◌, subst}
 use Rattle.upc_values.specs.declared.scalar.Scalar.{Scalar}
 use Rattle.upc_values.specs.declared.action.Reply.TheVariants as reply
 use Rattle.upc_values.specs.Expansion.{after_reply}
-use Rattle.upc_values.specs.LibraryCalls.{valued}
+use Rattle.upc_values.specs.LibraryCalls.{gives_zero}
 use Rattle.upc_library.specs.layer.Walks.{rest}
 use Rattle.upc_meaning_state.specs.layer.Came.{state_seen}
 use Rattle.upc_meaning_state.specs.layer.Libraries.{expanded_to}
@@ -23,8 +23,8 @@ returns-in-Ok c =
     let σ = state_seen c.args.self.now in
     let x = rest c.args.call.now in
     record {
-      goes = subst (λ (v : Scalar). expanded_to τ c.args.place (valued x) σ
-          ≡ expanded_to τ c.args.place (valued (after_reply x (reply.Value v))) σ) (sym c.scalar_of.ensures.value)
+      goes = subst (λ (v : Scalar). expanded_to τ c.args.place (gives_zero x) σ
+          ≡ expanded_to τ c.args.place (gives_zero (after_reply x (reply.Value v))) σ) (sym c.scalar_of.ensures.value)
           (load_gives τ c.args.place σ x c.args.p c.args.kind c.in-Ok.v c.requires (sym c.load.ensures.value ∙ c.in-Ok.is));
       answers = refl;
     }

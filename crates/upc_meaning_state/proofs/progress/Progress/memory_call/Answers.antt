@@ -2,7 +2,7 @@ use Rattle.std.proofs.Common.{sym, ap, ◌∙◌, subst}
 use Rattle.std.specs.Prelude.{IfOk}
 use Rattle.std.specs.Option.{option_copied}
 use Rattle.upc_values.specs.declared.scalar.Value.{Value}
-use Rattle.upc_values.specs.LibraryCalls.{valued}
+use Rattle.upc_values.specs.LibraryCalls.{gives_zero}
 use Rattle.thread_steps.specs.States.{Res}
 use Rattle.upc_library.specs.layer.Wishes.{expansion}
 use Rattle.upc_meaning_state.specs.layer.Came.{Came, state_seen}
@@ -30,5 +30,5 @@ returns-in-Ok c =
     subst (λ (r : Res Value). IfOk c.go_inside.result (λ s. Came r s c.go_inside.new.self))
     (sym (asks_so τ c.args.place σ c.args.call c.args.shape c.args.args.now o c.spec_of-spec.result c.requires.copies
     c.spec_of-spec.ensures c.private_of-private.ensures.value
-    ∙ ap (λ x. expanded_to τ c.args.place (valued x) σ) (sym c.in-Ok.ensures.made)))
+    ∙ ap (λ x. expanded_to τ c.args.place (gives_zero x) σ) (sym c.in-Ok.ensures.made)))
     c.go_inside.ensures
