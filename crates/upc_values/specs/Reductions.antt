@@ -7,7 +7,7 @@ use Rattle.block_layout.specs.declared.kind.Kind.{Kind}
 use Rattle.block_layout.specs.declared.kind.Kind.TheVariants.{Char, UChar, Short, UShort, Int, UInt, Long, ULong}
 use Rattle.integers.specs.declared.operator.BinOp.TheVariants.{Add, Multiply, BitAnd, BitOr, BitXor}
 use Rattle.block_layout.specs.Lists.{under}
-use Rattle.integers.specs.Integers.{converted}
+use Rattle.integers.specs.Integers.{converted, promoted}
 use Rattle.integers.specs.Operators.{truth, binary_of}
 
 -- The kind of a reduction's elements, by number: those of the calls that end in C UC S US I UI L UL (UPC 7.3.2.1).
