@@ -51,7 +51,7 @@ impl Progress {
     }
 
     // One action, whose reply gives the value.
-    #[tactic(auto, unfolding(thread_steps::specs::Accesses::run, thread_steps::specs::Actions::ask))]
+    #[tactic(auto, unfolding(thread_steps::specs::Accesses::library_steps, thread_steps::specs::Actions::ask))]
     fn ask(&mut self, action: Action, place: Place, code: &Code) -> Result<Value, Halt>
         ensures does { (thread budget : ℕ) (before : List Action)
             → Came before
@@ -75,7 +75,7 @@ impl Progress {
     }
 
     // A step of a call.
-    #[tactic(auto, unfolding(thread_steps::specs::Accesses::run))]
+    #[tactic(auto, unfolding(thread_steps::specs::Accesses::library_steps))]
     fn take_step(&mut self, step: LibraryStep, place: Place, code: &Code) -> Result<Value, Halt>
         ensures does { (thread budget : ℕ) (before : List Action)
             → Came before

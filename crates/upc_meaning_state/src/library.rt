@@ -83,7 +83,7 @@ impl<'r> Progress<'r> {
     }
 
     // A step of a call.
-    #[tactic(auto, unfolding(thread_steps::specs::Accesses::run))]
+    #[tactic(auto, unfolding(thread_steps::specs::Accesses::library_steps))]
     fn take_step(
         &mut self,
         runner: Runner<'_>,
