@@ -9,6 +9,7 @@ use atomic_table::Table;
 use std::alloc::{AllocError as OutOfMemory, Global};
 use std::hint::spin_loop;
 use std::sync::Wait;
+use std::thread::yield_now;
 use std::time::Duration;
 
 // The word of the table.
@@ -21,6 +22,9 @@ const DOING: u64 = 2;
 const DONE: u64 = 3;
 
 const DISMISSED: u64 = 4;
+
+// So many looks follow one another at once, for about a millisecond: after them others may have the processor first.
+const SPINS: u32 = 20_000;
 
 impl<W: Work> PostBox<W> {
     /// A box for this work, with its two places. Each looks so many times before it sleeps.
@@ -154,11 +158,13 @@ impl<W: Work> PostBox<W> {
         shared.wake_one(0);
     }
 
-    // Waits a little: at first just long enough to look again, later asleep for up to a millisecond, or until the other
-    // thread wakes it.
+    // Waits a little: at first just long enough to look again, later as long as another thread wants the processor, in
+    // the end asleep for up to a millisecond, or until the other thread wakes it.
     fn pause<R: Wait>(&self, rt: &R, found: u64, looked: u32, looks: u32) {
-        if looked < looks {
+        if looked < looks.min(SPINS) {
             spin_loop();
+        } else if looked < looks {
+            yield_now();
         } else {
             let longer = (looked - looks).min(4);
             let sleep = Duration::from_micros(50 << longer);

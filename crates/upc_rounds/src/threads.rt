@@ -142,10 +142,11 @@ fn attend_all<R: Threads + Wait + Sync, G: Gate>(
     );
 }
 
-// How often a thread looks before it sleeps: for about a millisecond, where each has a processor of its own.
+// How often a thread looks before it sleeps: for about a tenth of a second, where each has a processor of its own. Who
+// sleeps wakes late, and lets the others wait in the next round.
 fn looks_for<R: Threads>(rt: &R, threads: u32) -> u32 {
     match thread::available_parallelism(rt) {
-        Ok(count) if count.get() >= threads as usize => 20_000,
+        Ok(count) if count.get() >= threads as usize => 200_000,
         _ => 64,
     }
 }
